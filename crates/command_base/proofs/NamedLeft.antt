@@ -1,16 +1,21 @@
 -- How a loop reads the layers of a word one after the other.
-use Rattle.std.proofs.Common.{◌≡◌, ◌≢◌, ℕ, ◌+◌, ◌<◌, ◌≤◌, List, [], ◌∷◌, ◌++◌, map, drop, length, get_or, Option, Some, None, IfSome, Result, Ok, Err, refl, sym, ap, ◌∙◌}
+use Rattle.std.proofs.Common.{◌≡◌, ◌≢◌, ℕ, Bool, true, false, nat_lt, ◌+◌, ◌<◌, ◌≤◌, List, [], ◌∷◌, ◌++◌, map, drop, length, get_or, Option, Some, None, IfSome, Result, Ok, Err, refl, sym, ap, ◌∙◌}
 use Rattle.std.proofs.lemmas.List.{drop_more, drop_all, map-append}
-use Rattle.contract_words.specs.Faults.{◌>>=◌}
+use Rattle.contract_words.specs.Faults.{◌>>=◌, refuse}
+use Rattle.command_base.specs.declared.fault.ToolFault.TheVariants as faults
+use Rattle.command_base.specs.declared.layers_fault.LayersFault.{LayersFault}
+use Rattle.command_base.specs.declared.layers_fault.LayersFault.TheVariants.{TooManyLayers}
+use Rattle.command_base.specs.overlay_map.Layer.{most_layers}
+use Rattle.command_base.specs.ToolFault.{fault_of_layers}
 use Rattle.command_base.specs.declared.fault.ToolFault.TheVariants.{OutOfMemory}
 use Rattle.command_base.specs.declared.layer_files.LayerBytes as files
 use Rattle.command_base.specs.declared.list_word.ListedLayer as lent
 use Rattle.command_base.specs.declared.stop.Stop.{Stop}
 use Rattle.command_base.specs.StackBytes.{LayerBytes}
-use Rattle.command_base.specs.ListWord.{ListedLayer}
+use Rattle.command_base.specs.ListWord.{ListedLayer, layers_in_word}
 use Rattle.command_base.specs.ListWordSeen.{listed_of}
 use Rattle.command_base.specs.Stop.{StopOf, tool, stop_of}
-use Rattle.command_base.specs.Inputs.{Places, named_layer, named_layers}
+use Rattle.command_base.specs.Inputs.{Places, layers_named, named_layer, named_layers}
 use Rattle.command_base.specs.FilesSeen.{layer_held}
 
 -- where it is known what the places have: what is read of those that are left, behind the layers so far, is what is read of all
@@ -59,3 +64,38 @@ unfolding named_layers
 NamedLeft-end None so_far place layers before past = tt
 NamedLeft-end (Some places) so_far place layers before past =
     sym before ∙ ap (λ (left : List lent.ListedLayer). named_layers places (map layer_held so_far) (map listed_of left)) (drop_all place layers past)
+
+-- ---- whether a word lists too many
+
+not_refused : (many : Bool) → refuse many TooManyLayers ≡ Ok tt → many ≡ false
+not_refused true is = absurd cc
+not_refused false is = refl
+
+refused_by : (many : Bool) (fault : LayersFault) → refuse many TooManyLayers ≡ Err fault → (many ≡ true) × (fault ≡ TooManyLayers)
+refused_by true fault is = (refl, cc)
+refused_by false fault is = absurd cc
+
+abbrev within : Bool → Result (List LayerBytes) StopOf → Result (List LayerBytes) StopOf
+within many read = refuse many (tool (faults.Layers TooManyLayers)) >>= λ _. read
+
+of-word : (places : Places) (word : List ℕ) (layers : List ListedLayer) (count : ℕ) → layers ≡ layers_in_word word → count ≡ length layers
+    → layers_named places word ≡ within (nat_lt most_layers count) (named_layers places [] layers)
+unfolding layers_named
+of-word places word layers count lists counted =
+    ap (λ (layers : List ListedLayer). within (nat_lt most_layers (length layers)) (named_layers places [] layers)) (sym lists)
+    ∙ ap (λ (count : ℕ). within (nat_lt most_layers count) (named_layers places [] layers)) (sym counted)
+
+pub named-within : (places : Places) (word : List ℕ) (layers : List ListedLayer) (count : ℕ) (read : Result (List LayerBytes) StopOf) → layers ≡ layers_in_word word → count ≡ length layers
+    → Ok tt ≡ refuse (nat_lt most_layers count) TooManyLayers → named_layers places [] layers ≡ read → layers_named places word ≡ read
+named-within places word layers count read lists counted few is =
+    of-word places word layers count lists counted
+    ∙ (λ k. within (not_refused (nat_lt most_layers count) (sym few) k) (is k))
+
+pub named-refused : (places : Places) (word : List ℕ) (layers : List ListedLayer) (count : ℕ) (fault : LayersFault) → layers ≡ layers_in_word word → count ≡ length layers
+    → Err fault ≡ refuse (nat_lt most_layers count) TooManyLayers → layers_named places word ≡ Err (tool (fault_of_layers fault))
+named-refused places word layers count fault lists counted many =
+    let stopped : LayersFault → Result (List LayerBytes) StopOf = λ fault. Err (tool (fault_of_layers fault)) in
+    let refused = refused_by (nat_lt most_layers count) fault (sym many) in
+    of-word places word layers count lists counted
+    ∙ ap (λ (many : Bool). within many (named_layers places [] layers)) refused.0
+    ∙ ap stopped (sym refused.1)

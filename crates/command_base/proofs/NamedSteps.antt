@@ -98,6 +98,20 @@ pairs_in-found target overlay package_id targets lent shown found given names as
     ∙ found-own overlay (map named_seen targets))
     (is ∙ (λ k. pairs_with (map named_seen (at_shown k)) (map own_seen (at_given k))))
 
+-- as many as there are targets
+pub found-count : {A : Type 0} (targets lent shown : List NamedTarget) (found given : List (Option ResId)) (names asked : List Name) (at : NamedTarget → A) (as_asked : Name → A) (find : Name → Option ℕ)
+    → lent ≡ targets → map as_asked names ≡ map at lent → asked ≡ names → map own_seen found ≡ map find asked → shown ≡ targets → given ≡ found → length given ≡ length shown
+found-count {A} targets lent shown found given names asked at as_asked find at_lent named at_asked looked at_shown at_given =
+    ap (λ (t : List (Option ResId)). length t) at_given
+    ∙ sym (length-map found own_seen)
+    ∙ ap (λ (t : List (Option ℕ)). length t) looked
+    ∙ length-map asked find
+    ∙ ap (λ (t : List Name). length t) at_asked
+    ∙ sym (length-map names as_asked)
+    ∙ ap (λ (t : List A). length t) named
+    ∙ length-map lent at
+    ∙ ap (λ (t : List NamedTarget). length t) (at_lent ∙ sym at_shown)
+
 -- ---- the loop over what was found
 
 -- what was found for each target

@@ -4,9 +4,11 @@ use Rattle.std.proofs.lemmas.List.{append-nil, drop_more, drop_all}
 use Rattle.std.specs.Borrow.{Bor}
 use Rattle.command_base.specs.contract_words.Faults.{◌>>=◌}
 use Rattle.command_base.specs.contract_words.Sequences.{with_front}
+use Rattle.command_base.specs.overlay_map.IdMap.{MapOf}
 use Rattle.command_base.specs.overlay_map.Layer.{LayerOf}
+use Rattle.command_base.specs.resource_table.Table.{TableOf}
 use Rattle.command_base.specs.declared.fault.ToolFault.{ToolFault}
-use Rattle.command_base.specs.StackBytes.{LayerBytes, layer_in, layers_from}
+use Rattle.command_base.specs.StackBytes.{LayerBytes, layer_in, layers_from, map_of_layer, table_of_layer}
 use Rattle.command_base.specs.StackBytesSeen.{layer_bytes, with_layer}
 
 -- a layer, as its bytes are lent
@@ -91,5 +93,17 @@ OpensAllBut-end stack place layers before past =
     sym before.others
     ∙ ap (with_front stack) none
     ∙ ap wrapped (append-nil stack)
+
+-- ---- one layer
+
+abbrev layer_with : Result TableOf ToolFault → Result (Option MapOf) ToolFault → Result LayerOf ToolFault
+layer_with table map = table >>= λ table. map >>= λ map. Ok (record { table = table; map = map })
+
+-- a layer, of whose parts this is read
+pub of-parts : (stack : List LayerOf) (place : ℕ) (bytes : LayerBytes) (table : Result TableOf ToolFault) (map : Result (Option MapOf) ToolFault) → place ≡ length stack
+    → table_of_layer place bytes.table ≡ table → map_of_layer place bytes.map ≡ map → with_layer stack (layer_in (length stack) bytes) ≡ with_layer stack (layer_with table map)
+unfolding layer_in
+of-parts stack place bytes table map at is are =
+    ap (λ (place : ℕ). with_layer stack (layer_in place bytes)) (sym at) ∙ (λ k. with_layer stack (layer_with (is k) (are k)))
 
 pub ruleset stack_steps = (OpensAllBut-none, OpensAllBut-next, OpensAllBut-stops, OpensAllBut-end)

@@ -1,5 +1,6 @@
-use Rattle.std.proofs.Common.{arith}
+use Rattle.std.proofs.Common.{arith, refl}
 use Rattle.std.proofs.lemmas.Result.{err_from_is_err_and}
+use Rattle.command_base.proofs.StopSteps.{IfSome-all}
 use Rattle.command_base.proofs.NamedLeft.{NamedLeft-none, NamedLeft-next, NamedLeft-stops, NamedLeft-end}
 use Rattle.command_base.proofs.layer_files.read_each_named.Goals as goal
 
@@ -21,3 +22,8 @@ returns-in_err-read g c =
 pub returns : goal.returns
 returns g c =
     NamedLeft-end (g.I.Inputs.places c.args.inputs.now) c.loop-layer.files.items c.loop-layer.layer-index c.args.layers.now c.loop-layer.invariant (omega arith)
+
+pub returns-in_err-push : goal.returns-in_err-push
+returns-in_err-push g c =
+    let p = err_from_is_err_and c.from_residual-in_err-push.result c.from_residual-in_err-push.ensures.1 in
+    rw (p.1, p.2) (IfSome-all (g.I.Inputs.places c.args.inputs.now) (λ places other. absurd (other refl)))

@@ -1,7 +1,7 @@
 use Rattle.std.proofs.Common.{◌≡◌, [], ◌∷◌, ◌++◌, Option, None, Some, get_or, refl, ap, ◌∙◌}
 use Rattle.command_base.specs.answer_text.res_value.declared.res_id.ResId.{ResId}
 use Rattle.command_base.specs.declared.pairs.NamedTarget.{NamedTarget}
-use Rattle.command_base.proofs.NamedSteps.{PairedAllBut-put, PairedAllBut-skip}
+use Rattle.command_base.proofs.NamedSteps.{PairedAllBut-put, PairedAllBut-skip, PairedAllBut-end}
 use Rattle.command_base.proofs.pairs.found_pairs.Goals.{in-Some+in_ok-push, in_default}
 use Rattle.command_base.proofs.pairs.found_pairs.Goals as goal
 
@@ -22,3 +22,6 @@ loop-place-preserved c =
           (PairedAllBut-skip c.args.targets.now c.args.found.now c.loop-place.pairs.items c.loop-place.place c.index-targets-place.result c.requires c.loop-place-test.true
           c.loop-place.invariant (none-from_no_some (get_or c.args.found.now c.loop-place.place None) w.in_default.not-Some))
     ]
+
+pub returns : goal.returns
+returns c = PairedAllBut-end c.args.targets.now c.args.found.now c.loop-place.pairs.items c.loop-place.place c.requires c.loop-place-test.false c.loop-place.invariant
