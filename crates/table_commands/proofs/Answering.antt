@@ -1,10 +1,13 @@
--- A command whose files are not read, where what it prints names the paths of these.
-use Rattle.std.proofs.Common.{◌≡◌, ◌≢◌, Option, Some, None, IfSome, Result, Err, ap, inl}
+-- What a command answers: of files that are not read, where what it prints names the paths of these, and of what is read.
+use Rattle.std.proofs.Common.{◌≡◌, ◌≢◌, ℕ, List, Option, Some, None, IfSome, Result, Ok, Err, refl, ap, inl, inr}
 use Rattle.contract_words.specs.Faults.{◌>>=◌}
 use Rattle.command_base.specs.declared.fault.ToolFault.{ToolFault}
-use Rattle.command_base.specs.declared.fault.ToolFault.TheVariants.{OutOfMemory}
+use Rattle.command_base.specs.declared.fault.ToolFault.TheVariants.{OutOfMemory, Write}
 use Rattle.command_base.specs.declared.status.Status.{Status}
 use Rattle.command_base.specs.declared.stop.Stop.{Stop}
+use Rattle.command_base.specs.declared.stop.Stop.TheVariants.{Tool}
+use Rattle.command_base.specs.Output.{Output, Prints}
+use Rattle.table_commands.specs.MapOutput.{MapOutput, PrintsBoth}
 use Rattle.command_base.specs.Stop.{StopOf, stop_of, tool}
 use Rattle.command_base.specs.Inputs.{Places}
 use Rattle.command_base.specs.CarriesOut.{CarriesOut}
@@ -15,3 +18,29 @@ pub stops_unread : {X Y : Type 0} (Command : Result Y StopOf → X → Result St
     → IfSome known (λ places. CarriesOut (Command (read places)) (read places >>= f) (Err stop))
 stops_unread Command f None read stop given = tt
 stops_unread {X} {Y} Command f (Some places) read stop given = λ told. inl (ap (λ (r : Result Y StopOf). r >>= f) (given told))
+
+-- ---- of what is read
+
+pub done_on_read : {X : Type 0} (Command : X → Result Status ToolFault → Type 0) (known : Option Places) (read : Places → Result X StopOf) (held : X) (status : Status)
+    → IfSome known (λ places. read places ≡ Ok held) → Command held (Ok status) → IfSome known (λ places. CarriesOut Command (read places) (Ok status))
+done_on_read Command None read held status is done = tt
+done_on_read Command (Some places) read held status is done = (held, is, done)
+
+pub fault_on_read : {X : Type 0} (Command : X → Result Status ToolFault → Type 0) (known : Option Places) (read : Places → Result X StopOf) (held : X) (fault : ToolFault)
+    → IfSome known (λ places. read places ≡ Ok held) → Command held (Err fault) → IfSome known (λ places. CarriesOut Command (read places) (Err (Tool fault)))
+fault_on_read Command None read held fault is done = tt
+fault_on_read Command (Some places) read held fault is done = λ told. inr (held, fault, is, refl, done)
+
+-- ---- what a fault leaves of the streams
+
+pub kept_at_fault : {W : Type 0} (contents : W → Option (List ℕ)) (old new : W) (fault : ToolFault) (meant : Result Output ToolFault) → Prints contents old new (Err fault) meant
+    → tool fault ≢ tool Write → new ≡ old
+kept_at_fault contents old new OutOfMemory meant printed told = printed
+kept_at_fault contents old new Write meant printed told = absurd (told refl)
+kept_at_fault contents old new fault meant printed told = printed.1
+
+pub both_kept_at_fault : {W V : Type 0} (contents : W → Option (List ℕ)) (says : V → Option (List ℕ)) (old new : W) (before after : V) (fault : ToolFault) (meant : Result MapOutput ToolFault)
+    → PrintsBoth contents says old new before after (Err fault) meant → tool fault ≢ tool Write → (new ≡ old) × (after ≡ before)
+both_kept_at_fault contents says old new before after OutOfMemory meant printed told = printed
+both_kept_at_fault contents says old new before after Write meant printed told = absurd (told refl)
+both_kept_at_fault contents says old new before after fault meant printed told = (printed.1, printed.2)

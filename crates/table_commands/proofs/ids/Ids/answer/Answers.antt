@@ -1,10 +1,14 @@
-use Rattle.std.proofs.Common.{List}
+use Rattle.std.proofs.Common.{List, Result}
 use Rattle.std.proofs.lemmas.Result.{err_from_is_err_and}
+use Rattle.command_base.specs.declared.status.Status.{Status}
+use Rattle.command_base.specs.declared.fault.ToolFault.{ToolFault}
+use Rattle.command_base.specs.FilesSeen.{layers_held}
 use Rattle.command_base.specs.Inputs.{layers_of}
 use Rattle.command_base.specs.Output.{Prints}
 use Rattle.command_base.specs.StackBytes.{LayerBytes}
-use Rattle.command_base.proofs.CarriedOut.{unread_stops}
 use Rattle.table_commands.specs.TableOutput.{ids_output}
+use Rattle.table_commands.proofs.Answering.{done_on_read, fault_on_read, kept_at_fault}
+use Rattle.command_base.proofs.CarriedOut.{unread_stops}
 use Rattle.table_commands.proofs.ids.Ids.answer.Goals as goal
 
 pub returns-in_err-files-clause-answers : goal.returns-in_err-files-clause-answers
@@ -14,3 +18,23 @@ returns-in_err-files-clause-answers g c =
     rw (p.1, p.2) (
     unread_stops (λ (layers : List LayerBytes) done. Prints g.W.Write.contents out out done (ids_output layers))
     (g.I.Inputs.places c.args.inputs.now) (λ places. layers_of places c.args.self.now.layers.now) c.in_err-files.field-0.0 c.in_err-files.ensures.layers)
+
+pub returns-in_err-ids_of_files-clause-answers : goal.returns-in_err-ids_of_files-clause-answers
+returns-in_err-ids_of_files-clause-answers g c =
+    let command = λ (layers : List LayerBytes) (done : Result Status ToolFault). Prints g.W.Write.contents c.args.out.now c.ids_of_files.new.out done (ids_output layers) in
+    let p = err_from_is_err_and c.from_residual-in_err-ids_of_files.result c.from_residual-in_err-ids_of_files.ensures.1 in
+    rw (p.1, p.2)
+    (fault_on_read command (g.I.Inputs.places c.args.inputs.now) (λ places. layers_of places c.args.self.now.layers.now) (layers_held c.in_ok-files.files) c.in_err-ids_of_files.field-0.0
+    c.in_ok-files.ensures.layers c.in_err-ids_of_files.ensures)
+
+pub returns-in_err-ids_of_files-clause-unwritten : goal.returns-in_err-ids_of_files-clause-unwritten
+returns-in_err-ids_of_files-clause-unwritten g c =
+    let p = err_from_is_err_and c.from_residual-in_err-ids_of_files.result c.from_residual-in_err-ids_of_files.ensures.1 in
+    rw (p.1, p.2)
+    (kept_at_fault g.W.Write.contents c.args.out.now c.ids_of_files.new.out c.in_err-ids_of_files.field-0.0 (ids_output (layers_held c.in_ok-files.files)) c.in_err-ids_of_files.ensures)
+
+pub returns-clause-answers : goal.returns-clause-answers
+returns-clause-answers g c =
+    let command = λ (layers : List LayerBytes) (done : Result Status ToolFault). Prints g.W.Write.contents c.args.out.now c.ids_of_files.new.out done (ids_output layers) in
+    done_on_read command (g.I.Inputs.places c.args.inputs.now) (λ places. layers_of places c.args.self.now.layers.now) (layers_held c.in_ok-files.files) c.in_ok-ids_of_files.field-0
+    c.in_ok-files.ensures.layers c.in_ok-ids_of_files.ensures

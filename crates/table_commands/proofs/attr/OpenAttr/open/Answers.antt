@@ -1,0 +1,16 @@
+use Rattle.std.proofs.Common.{refl}
+use Rattle.std.proofs.lemmas.Result.{err_from_is_err_and}
+use Rattle.table_commands.specs.AttrOutput.{attr_opened}
+use Rattle.table_commands.proofs.attr.OpenAttr.open.Goals as goal
+
+pub returns-in_err-opened : goal.returns-in_err-opened
+unfolding attr_opened
+returns-in_err-opened c =
+    let p = err_from_is_err_and c.from_residual-in_err-opened.result c.from_residual-in_err-opened.ensures.1 in
+    rw (p.1, p.2) (λ told. rw (c.in_ok-sets.ensures, c.in_err-opened.ensures told) refl)
+
+pub returns-in_err-sets : goal.returns-in_err-sets
+unfolding attr_opened
+returns-in_err-sets c =
+    let p = err_from_is_err_and c.from_residual.result c.from_residual.ensures.1 in
+    rw (p.1, p.2) (λ told. rw (c.in_err-sets.ensures told) refl)

@@ -1,0 +1,17 @@
+use Rattle.std.proofs.Common.{refl}
+use Rattle.std.proofs.lemmas.Option.{IfSome_then}
+use Rattle.std.proofs.lemmas.Result.{err_from_is_err_and}
+use Rattle.table_commands.specs.DeviceOutput.{device_form}
+use Rattle.table_commands.proofs.device.DeviceForm.text.Goals as goal
+
+pub returns-in_err-text : goal.returns-in_err-text
+unfolding device_form
+returns-in_err-text g c =
+    let p = err_from_is_err_and c.from_residual.result c.from_residual.ensures.1 in
+    rw (p.1, p.2) (IfSome_then (g.I.Inputs.places c.args.inputs.now) c.in_err-text.ensures (λ places is told. rw (is told) refl))
+
+pub returns-in_err-device : goal.returns-in_err-device
+unfolding device_form
+returns-in_err-device g c =
+    let p = err_from_is_err_and c.from_residual-in_err-device.result c.from_residual-in_err-device.ensures.1 in
+    rw (p.1, p.2) (IfSome_then (g.I.Inputs.places c.args.inputs.now) c.in_ok-text.ensures (λ places is told. rw (is, c.in_err-device.ensures told) refl))
