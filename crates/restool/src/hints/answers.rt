@@ -2,6 +2,7 @@
 
 use crate::command_line::MOST_NODES;
 use crate::hints::Asked;
+use crate::hints::text::{number_text, text_of};
 use crate::request::Request;
 use command_base::Inputs;
 use resource_tool::Reached;
@@ -23,50 +24,90 @@ impl<I: Inputs> Asked<'_, '_, I> {
     /// A hint behind what a command wrote to its output, which came so far.
     pub(crate) fn hint_of_answer(&self, said: &[u8], reached: Reached) -> Option<String> {
         if said == NODE_LIMIT {
-            return self.hint_of_limit(reached);
+            return hint_of_limit(self.alloc, self.request, reached);
         }
-        match self.request {
-            Request::Make(_) if said.starts_with(COUNTEREXAMPLE) => format!(in self.alloc;
+        let hint = match self.request {
+            Request::Make(_) if said.starts_with(COUNTEREXAMPLE) => {
                 "--omit leaves out goals without a value on some device, and tells them"
-            ).ok(),
-            Request::Map(_) if said == NOTHING_MAPS => format!(in self.alloc;
+            }
+            Request::Map(_) if said == NOTHING_MAPS => {
                 "nothing of the overlay maps: is it made for this target?"
-            ).ok(),
-            Request::Check(check) => self.hint_of_verdict(check, said),
-            _ => None,
-        }
-    }
-
-    // How far it came over goals or names, where that is known, and what allows more.
-    fn hint_of_limit(&self, reached: Reached) -> Option<String> {
-        let (most, what) = match self.request {
-            Request::Make(make) => (make.max_nodes, "goals"),
-            Request::Diff(diff) => (diff.max_nodes, "names"),
-            Request::Values(values) => (values.max_nodes, "names"),
-            Request::Unused(unused) => return more_nodes(self.alloc, unused.max_nodes, "names"),
+            }
+            Request::Check(check) => return self.hint_of_verdict(check, said),
             _ => return None,
         };
-        let came = came_so_far(self.alloc, most, reached, what)?;
-        let more = more_nodes(self.alloc, most, what)?;
-        format!(in self.alloc; "{came}; {more}").ok()
+        text_of(self.alloc, &[hint])
     }
+}
+
+// How far it came over goals or names, where that is known, and what allows more.
+fn hint_of_limit(alloc: Global, request: &Request<'_>, reached: Reached) -> Option<String> {
+    let (most, what) = match request {
+        Request::Make(make) => (make.max_nodes, "goals"),
+        Request::Diff(diff) => (diff.max_nodes, "names"),
+        Request::Values(values) => (values.max_nodes, "names"),
+        Request::Unused(unused) => return more_nodes(alloc, unused.max_nodes, "names"),
+        _ => return None,
+    };
+    let came = came_so_far(alloc, most, what, reached)?;
+    let more = more_nodes(alloc, most, what)?;
+    text_of(alloc, &[came.as_str(), "; ", more.as_str()])
 }
 
 // What allows more nodes than these, or needs fewer.
 fn more_nodes(alloc: Global, most: u32, what: &str) -> Option<String> {
     if most >= MOST_NODES {
-        return format!(in alloc; "ask for fewer {what} at a time, or make the box smaller").ok();
+        let parts = [
+            "ask for fewer ",
+            what,
+            " at a time, or make the box smaller",
+        ];
+        return text_of(alloc, &parts);
     }
     let more = most.saturating_mul(MORE).min(MOST_NODES);
-    format!(in alloc;
-        "--max-nodes {more} allows more, fewer {what} or a smaller box need less"
-    ).ok()
+    let more = number_text(alloc, u64::from(more))?;
+    text_of(
+        alloc,
+        &[
+            "--max-nodes ",
+            more.as_str(),
+            " allows more, fewer ",
+            what,
+            " or a smaller box need less",
+        ],
+    )
 }
 
-fn came_so_far(alloc: Global, most: u32, reached: Reached, what: &str) -> Option<String> {
-    let Reached { done, all } = reached;
-    if done == 0 && all > most as usize {
-        return format!(in alloc; "there are more {what} than {most}, the limit of nodes").ok();
+fn came_so_far(alloc: Global, most: u32, what: &str, reached: Reached) -> Option<String> {
+    let limit = number_text(alloc, u64::from(most))?;
+    let limit = limit.as_str();
+    if reached.done == 0 && reached.all > most as usize {
+        let parts = [
+            "there are more ",
+            what,
+            " than ",
+            limit,
+            ", the limit of nodes",
+        ];
+        return text_of(alloc, &parts);
     }
-    format!(in alloc; "{done} of {all} {what} were done with at most {most} nodes").ok()
+    done_of_all(alloc, limit, what, reached)
+}
+
+fn done_of_all(alloc: Global, limit: &str, what: &str, reached: Reached) -> Option<String> {
+    let done = number_text(alloc, reached.done as u64)?;
+    let all = number_text(alloc, reached.all as u64)?;
+    text_of(
+        alloc,
+        &[
+            done.as_str(),
+            " of ",
+            all.as_str(),
+            " ",
+            what,
+            " were done with at most ",
+            limit,
+            " nodes",
+        ],
+    )
 }

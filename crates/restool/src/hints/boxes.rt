@@ -1,42 +1,52 @@
 //! What is wrong with a box.
 
 use crate::hints::locale_texts::hint_of_locale;
-use crate::hints::members::{coord_named, hint_of_name, hint_of_number, hint_of_value, is_short};
-use crate::hints::qualifiers::meaning;
+use crate::hints::members::{
+    Member, coord_named, hint_at_item, hint_of_name, hint_of_number, hint_of_value, is_short,
+    members_of,
+};
+use crate::hints::qualifiers::{meaning, name_of};
+use crate::hints::text::{number_text, text_of};
 use command_base::{BoxFault, Coord, LocaleRule};
-use json_input::{list_of, read_value};
+use json_input::list_of;
 use locales::read_locale;
 use serde_json::Value;
 use std::alloc::Global;
 
 /// The names of the members of a range.
-const ENDS: [&str; 2] = ["from", "to"];
+const ENDS: &[&str] = &["from", "to"];
 
-/// What is wrong with the JSON text of a box that has a fault.
+/// What is wrong with the value of a box that has a fault.
 pub(crate) fn hint_of_box(
     alloc: Global,
-    json: &[u8],
+    value: &Value,
     rule: LocaleRule,
     fault: BoxFault,
 ) -> Option<String> {
-    let members = read_value(alloc, json).ok()?;
     match fault {
-        BoxFault::Shape => hint_of_shape(alloc, &members),
-        BoxFault::FieldRange(Coord::Locale) => hint_of_locales(alloc, &members, rule),
-        BoxFault::FieldRange(coord) => hint_of_range(alloc, &members, coord),
-        BoxFault::Density => match hint_of_range(alloc, &members, Coord::Density) {
-            Some(hint) => Some(hint),
-            None => format!(in alloc;
-                "give the densities, as \"density\":[160,320] or \"density\":{{\"from\":120,\"to\":640}}"
-            ).ok(),
-        },
+        BoxFault::Shape => hint_of_shape(alloc, &members_of(alloc, value)?),
+        BoxFault::FieldRange(Coord::Locale) => hint_of_locales(alloc, value, rule),
+        BoxFault::FieldRange(coord) => hint_of_range(alloc, value, coord),
+        BoxFault::Density => hint_of_density(alloc, value),
         _ => None,
     }
 }
 
+fn hint_of_density(alloc: Global, value: &Value) -> Option<String> {
+    match hint_of_range(alloc, value, Coord::Density) {
+        Some(hint) => Some(hint),
+        None => text_of(
+            alloc,
+            &[
+                "give the densities, as \"density\":[160,320] or \"density\":{\"from\":120,\"to\":640}",
+            ],
+        ),
+    }
+}
+
 // The first text that gives no locale.
-fn hint_of_locales(alloc: Global, members: &Value, rule: LocaleRule) -> Option<String> {
-    for item in list_of(members.get(Coord::Locale.name())?)? {
+fn hint_of_locales(alloc: Global, value: &Value, rule: LocaleRule) -> Option<String> {
+    for item in list_of(value.get(Coord::Locale.name())?)? {
         let text = item.as_str()?;
         if read_locale(text, rule).is_err() && is_short(text) {
             return hint_of_locale(alloc, text, rule);
@@ -46,8 +56,8 @@ fn hint_of_locales(alloc: Global, members: &Value, rule: LocaleRule) -> Option<S
 }
 
 // The first number that no device has.
-fn hint_of_range(alloc: Global, members: &Value, coord: Coord) -> Option<String> {
-    let value = members.get(coord.name())?;
+fn hint_of_range(alloc: Global, value: &Value, coord: Coord) -> Option<String> {
+    let value = value.get(coord.name())?;
     let number = match list_of(value) {
         Some(items) => outside_among(coord, items)?,
         None => outside_in_range(coord, value)?,
@@ -67,7 +77,7 @@ fn outside_among(coord: Coord, items: &[Value]) -> Option<u64> {
 
 fn outside_in_range(coord: Coord, range: &Value) -> Option<u64> {
     for end in ENDS {
-        let number = range.get(end)?.as_u64()?;
+        let number = range.get(*end)?.as_u64()?;
         if coord.is_outside(number) {
             return Some(number);
         }
@@ -76,15 +86,12 @@ fn outside_in_range(coord: Coord, range: &Value) -> Option<u64> {
 }
 
 // The first member that is not as it has to be.
-fn hint_of_shape(alloc: Global, members: &Value) -> Option<String> {
-    for (name, value) in members.as_object()?.iter() {
-        let Some(coord) = coord_named(name.as_str()) else {
-            return hint_of_name(alloc, name.as_str());
+fn hint_of_shape(alloc: Global, members: &[Member<'_>]) -> Option<String> {
+    for member in members {
+        let Some(coord) = coord_named(member.name) else {
+            return hint_of_name(alloc, member.name);
         };
-        let hint = match coord {
-            Coord::Locale => hint_of_texts(alloc, value),
-            _ => hint_of_set(alloc, coord, value),
-        };
+        let hint = hint_of_member(alloc, coord, member.value);
         if hint.is_some() {
             return hint;
         }
@@ -92,28 +99,35 @@ fn hint_of_shape(alloc: Global, members: &Value) -> Option<String> {
     None
 }
 
-fn hint_of_texts(alloc: Global, value: &Value) -> Option<String> {
-    match list_of(value) {
-        Some(items) if items.iter().all(|item| item.is_string()) => None,
-        _ => format!(in alloc; "\"locale\" takes a list of texts, as [\"es-MX\",\"de\"]").ok(),
+fn hint_of_member(alloc: Global, coord: Coord, value: &Value) -> Option<String> {
+    match (coord, list_of(value)) {
+        (Coord::Locale, Some(items)) if are_texts(items) => None,
+        (Coord::Locale, _) => text_of(
+            alloc,
+            &["\"locale\" takes a list of texts, as [\"es-MX\",\"de\"]"],
+        ),
+        (_, Some(items)) => hint_of_items(alloc, coord, items),
+        (_, None) if is_range(value) => hint_of_ends(alloc, coord, value),
+        (_, None) => hint_of_other(alloc, coord, value),
     }
 }
 
-fn hint_of_set(alloc: Global, coord: Coord, value: &Value) -> Option<String> {
-    if let Some(items) = list_of(value) {
-        return hint_of_items(alloc, coord, items);
+fn are_texts(items: &[Value]) -> bool {
+    for item in items {
+        if !item.is_string() {
+            return false;
+        }
     }
-    if ENDS.iter().all(|end| value.get(*end).is_some()) {
-        return hint_of_ends(alloc, coord, value);
+    true
+}
+
+fn is_range(value: &Value) -> bool {
+    for end in ENDS {
+        if value.get(*end).is_none() {
+            return false;
+        }
     }
-    let name = coord.name();
-    let means = meaning(coord);
-    match value.as_u64() {
-        Some(number) => format!(in alloc; "\"{name}\" takes a list in a box: [{number}]").ok(),
-        None => format!(in alloc;
-            "\"{name}\" takes a list or a range, {{\"from\":1,\"to\":2}}: {means}"
-        ).ok(),
-    }
+    true
 }
 
 // The first item that is no number, with its place.
@@ -121,20 +135,45 @@ fn hint_of_items(alloc: Global, coord: Coord, items: &[Value]) -> Option<String>
     for (place, item) in items.iter().enumerate() {
         if item.as_u64().is_none() {
             let hint = hint_of_value(alloc, coord, item)?;
-            return format!(in alloc; "item {place}: {hint}").ok();
+            return hint_at_item(alloc, place, ": ", hint.as_str());
         }
     }
     None
 }
 
+// The first end that is no number.
 fn hint_of_ends(alloc: Global, coord: Coord, range: &Value) -> Option<String> {
     for end in ENDS {
-        let value = range.get(end)?;
+        let value = range.get(*end)?;
         if value.as_u64().is_none() {
-            let hint = hint_of_value(alloc, coord, value)?;
-            return format!(in alloc; "{end}: {hint}").ok();
+            return hint_of_end(alloc, coord, *end, value);
         }
     }
-    let name = coord.name();
-    format!(in alloc; "a range at \"{name}\" has from and to, and nothing else").ok()
+    let has = "\" has from and to, and nothing else";
+    text_of(alloc, &["a range at \"", name_of(coord), has])
+}
+
+fn hint_of_end(alloc: Global, coord: Coord, end: &str, value: &Value) -> Option<String> {
+    let hint = hint_of_value(alloc, coord, value)?;
+    text_of(alloc, &[end, ": ", hint.as_str()])
+}
+
+// What is neither a list nor a range.
+fn hint_of_other(alloc: Global, coord: Coord, value: &Value) -> Option<String> {
+    let name = name_of(coord);
+    let Some(number) = value.as_u64() else {
+        let takes = "\" takes a list or a range, {\"from\":1,\"to\":2}: ";
+        return text_of(alloc, &["\"", name, takes, meaning(coord)]);
+    };
+    let number = number_text(alloc, number)?;
+    text_of(
+        alloc,
+        &[
+            "\"",
+            name,
+            "\" takes a list in a box: [",
+            number.as_str(),
+            "]",
+        ],
+    )
 }

@@ -1,17 +1,15 @@
 //! What a file has where another was expected.
 
 use crate::hints::Asked;
+use crate::hints::kinds::Kind;
+use crate::hints::text::{first_line, text_of};
 use command_base::Inputs;
 use std::alloc::Global;
-use std::str;
 
 /// What a file was expected to have.
 #[derive(Clone, Copy)]
 pub(crate) enum Expected {
-    Layers,
-    Device,
-    Box,
-    Certificate,
+    Json(Kind),
     Map,
     Table,
     Apk,
@@ -44,69 +42,81 @@ impl<I: Inputs> Asked<'_, '_, I> {
     }
 }
 
-fn instead_of(alloc: Global, expected: Expected, path: &str, bytes: &[u8]) -> Option<String> {
-    match (expected, content_of(bytes)) {
-        (_, Content::Nothing) => format!(in alloc; "{path} is empty").ok(),
-        (Expected::Layers | Expected::Table, Content::Zip) => format!(in alloc;
-            "{path} is a zip file; an apk is read where its path ends in .apk"
-        ).ok(),
-        (Expected::Layers | Expected::Apk, Content::Table) => format!(in alloc;
-            "{path} is a table; one is read where its path ends in .arsc"
-        ).ok(),
-        (Expected::Table | Expected::Apk, other) => instead_of_table(alloc, path, other),
-        (Expected::Device, Content::Config) => format!(in alloc;
-            "give what am get-config printed itself: \"$(cat {path})\""
-        ).ok(),
-        (Expected::Certificate, Content::NoCertificate) => printed_by_make(alloc, path, bytes),
-        (_, other) => instead_of_json(alloc, path, other),
+/// The same of the bytes of a file.
+pub(crate) fn instead_of(
+    alloc: Global,
+    expected: Expected,
+    path: &str,
+    bytes: &[u8],
+) -> Option<String> {
+    let content = content_of(bytes);
+    match (expected, content) {
+        (Expected::Json(Kind::Device), Content::Config) => text_of(
+            alloc,
+            &[
+                "give what am get-config printed itself: \"$(cat ",
+                path,
+                ")\"",
+            ],
+        ),
+        (Expected::Json(Kind::Certificate), Content::NoCertificate) => {
+            printed_by_make(alloc, path, bytes)
+        }
+        _ => text_of(alloc, &[path, said_of(expected, content)?]),
     }
 }
 
-fn instead_of_table(alloc: Global, path: &str, content: Content) -> Option<String> {
-    match content {
-        Content::Json => format!(in alloc; "{path} is a JSON text, and no table").ok(),
-        Content::Xml => format!(in alloc;
-            "{path} is a binary XML file; the table of an apk is its resources.arsc"
-        ).ok(),
-        _ => None,
-    }
-}
-
-fn instead_of_json(alloc: Global, path: &str, content: Content) -> Option<String> {
-    match content {
-        Content::Zip => format!(in alloc; "{path} is a zip file, and no JSON text").ok(),
-        Content::Table => format!(in alloc; "{path} is a table, and no JSON text").ok(),
-        Content::Xml => format!(in alloc; "{path} is a binary XML file, and no JSON text").ok(),
+// What a file is, behind its path.
+fn said_of<'a>(expected: Expected, content: Content) -> Option<&'a str> {
+    match (expected, content) {
+        (_, Content::Nothing) => Some(" is empty"),
+        (Expected::Json(Kind::Layers) | Expected::Table, Content::Zip) => {
+            Some(" is a zip file; an apk is read where its path ends in .apk")
+        }
+        (Expected::Json(Kind::Layers) | Expected::Apk, Content::Table) => {
+            Some(" is a table; one is read where its path ends in .arsc")
+        }
+        (Expected::Table | Expected::Apk, Content::Json) => Some(" is a JSON text, and no table"),
+        (Expected::Table | Expected::Apk, Content::Xml) => {
+            Some(" is a binary XML file; the table of an apk is its resources.arsc")
+        }
+        (Expected::Table | Expected::Apk, _) => None,
+        (_, Content::Zip) => Some(" is a zip file, and no JSON text"),
+        (_, Content::Table) => Some(" is a table, and no JSON text"),
+        (_, Content::Xml) => Some(" is a binary XML file, and no JSON text"),
         _ => None,
     }
 }
 
 fn printed_by_make(alloc: Global, path: &str, bytes: &[u8]) -> Option<String> {
-    let line = str::from_utf8(bytes).ok()?.lines().next()?;
+    let line = first_line(bytes)?;
     if line.len() > MOST_BYTES {
         return None;
     }
-    format!(in alloc; "make printed no certificate into {path} but: {line}").ok()
+    text_of(
+        alloc,
+        &["make printed no certificate into ", path, " but: ", line],
+    )
 }
 
 fn content_of(bytes: &[u8]) -> Content {
-    match bytes {
-        [] => Content::Nothing,
-        [b'P', b'K', ..] => Content::Zip,
-        [2, 0, 12, 0, ..] => Content::Table,
-        [3, 0, 8, 0, ..] => Content::Xml,
-        _ => content_of_text(bytes),
+    if bytes.starts_with(b"PK") {
+        Content::Zip
+    } else if bytes.starts_with(&[2, 0, 12, 0]) {
+        Content::Table
+    } else if bytes.starts_with(&[3, 0, 8, 0]) {
+        Content::Xml
+    } else if bytes.starts_with(b"config:") {
+        Content::Config
+    } else if bytes.starts_with(b"counter goal ") || bytes.starts_with(b"node limit") {
+        Content::NoCertificate
+    } else {
+        content_of_text(bytes)
     }
 }
 
 fn content_of_text(bytes: &[u8]) -> Content {
-    if bytes.starts_with(b"config:") {
-        return Content::Config;
-    }
-    if bytes.starts_with(b"counter goal ") || bytes.starts_with(b"node limit") {
-        return Content::NoCertificate;
-    }
-    match bytes.iter().find(|byte| !byte.is_ascii_whitespace()) {
+    match bytes.trim_ascii_start().first() {
         None => Content::Nothing,
         Some(b'{' | b'[') => Content::Json,
         Some(_) => Content::Other,

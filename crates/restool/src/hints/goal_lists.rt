@@ -2,14 +2,14 @@
 
 use crate::hints::Asked;
 use crate::hints::again::Again;
+use crate::hints::text::{number_text, text_of};
 use answer_text::{StackNames, write_goal_words};
 use command_base::{
-    Cert, Goal, Inputs, LayerFiles, LayerParts, asked_goals, asked_words, open_stack,
+    Cert, CertGoal, Goal, Inputs, LayerFiles, LayerParts, asked_goals, asked_words, open_stack,
 };
 use names::first_goals;
 use resource_tool::Check;
 use std::alloc::Global;
-use std::str;
 
 /// The texts of goals that are asked for, and of those of a certificate.
 #[derive(Drop)]
@@ -21,118 +21,204 @@ struct GoalTexts {
 impl<I: Inputs> Asked<'_, '_, I> {
     /// Where the goals that are asked for and those of the certificate differ first, and whether it is their order alone.
     pub(crate) fn hint_of_goals(&self, check: &Check<'_>) -> Option<String> {
-        let texts = texts_of_both(self.alloc, &self.again(), check)?;
-        let place = texts.first_difference();
-        let path = check.certificate;
-        let differs = match (texts.certified.get(place), texts.asked.get(place)) {
-            (Some(certified), Some(asked)) => format!(in self.alloc;
-                "goal {place} of {path} is {certified}, and {asked} is asked for"
-            ).ok()?,
-            (Some(certified), None) => format!(in self.alloc;
-                "{path} has more goals, goal {place} is {certified}"
-            ).ok()?,
-            (None, Some(asked)) => format!(in self.alloc;
-                "{path} has no goal {place}, for which {asked} is asked"
-            ).ok()?,
-            (None, None) => return None,
+        let mut texts = GoalTexts {
+            asked: Vec::new(self.alloc),
+            certified: Vec::new(self.alloc),
         };
-        let why = texts.why()?;
-        format!(in self.alloc; "{differs}; {why}: restool show {} {path}", check.layers).ok()
+        read_texts(self.alloc, &self.again(), check, &mut texts)?;
+        hint_of_texts(self.alloc, check, &mut texts)
     }
+}
+
+fn hint_of_texts(alloc: Global, check: &Check<'_>, texts: &mut GoalTexts) -> Option<String> {
+    let differs = texts.difference(alloc, check.certificate)?;
+    let why = texts.why()?;
+    hint_by(
+        alloc,
+        differs.as_str(),
+        why,
+        check.layers,
+        check.certificate,
+    )
+}
+
+fn hint_by(alloc: Global, differs: &str, why: &str, layers: &str, path: &str) -> Option<String> {
+    text_of(
+        alloc,
+        &[differs, "; ", why, ": restool show ", layers, " ", path],
+    )
 }
 
 impl GoalTexts {
-    // The first place at which they differ, or the end of the shorter list.
-    fn first_difference(&self) -> usize {
-        let both = self.asked.iter().zip(self.certified.iter());
-        for (place, (asked, certified)) in both.enumerate() {
-            if asked != certified {
-                return place;
-            }
+    fn difference(&self, alloc: Global, path: &str) -> Option<String> {
+        let place = first_difference(&self.asked, &self.certified);
+        let number = number_text(alloc, place as u64)?;
+        let number = number.as_str();
+        match (self.certified.get(place), self.asked.get(place)) {
+            (Some(certified), Some(asked)) => text_of(
+                alloc,
+                &[
+                    "goal ",
+                    number,
+                    " of ",
+                    path,
+                    " is ",
+                    certified.as_str(),
+                    ", and ",
+                    asked.as_str(),
+                    " is asked for",
+                ],
+            ),
+            (Some(certified), None) => text_of(
+                alloc,
+                &[
+                    path,
+                    " has more goals, goal ",
+                    number,
+                    " is ",
+                    certified.as_str(),
+                ],
+            ),
+            (None, Some(asked)) => text_of(
+                alloc,
+                &[
+                    path,
+                    " has no goal ",
+                    number,
+                    ", for which ",
+                    asked.as_str(),
+                    " is asked",
+                ],
+            ),
+            (None, None) => None,
         }
-        self.asked.len().min(self.certified.len())
     }
 
     // What may be the reason.
-    fn why(mut self) -> Option<&'static str> {
-        self.asked.sort().ok()?;
-        self.certified.sort().ok()?;
-        if self.asked == self.certified {
-            Some("the same goals stand there in another order")
-        } else {
-            Some("maybe it is of another build, whose ids differ; its own")
+    fn why(&mut self) -> Option<&'static str> {
+        match (self.asked.sort(), self.certified.sort()) {
+            (Ok(()), Ok(())) if self.asked == self.certified => {
+                Some("the same goals stand there in another order")
+            }
+            (Ok(()), Ok(())) => Some("maybe it is of another build, whose ids differ; its own"),
+            _ => None,
         }
     }
 }
 
-fn texts_of_both<I: Inputs>(
+// The first place at which they differ, or the end of the shorter list.
+fn first_difference(asked: &[String], certified: &[String]) -> usize {
+    for (place, text) in asked.iter().enumerate() {
+        if certified.get(place) != Some(text) {
+            return place;
+        }
+    }
+    asked.len()
+}
+
+fn read_texts<I: Inputs>(
     alloc: Global,
     inputs: &Again<'_, I>,
     check: &Check<'_>,
-) -> Option<GoalTexts> {
+    texts: &mut GoalTexts,
+) -> Option<()> {
     let files = LayerFiles::read(alloc, inputs, check.layers).ok()?;
     let layers = files.layers(alloc).ok()?;
-    texts_over_layers(alloc, inputs, check, &layers)
+    push_over_layers(alloc, inputs, check, &layers, texts)
 }
 
-fn texts_over_layers<I: Inputs>(
+fn push_over_layers<I: Inputs>(
     alloc: Global,
     inputs: &Again<'_, I>,
     check: &Check<'_>,
     layers: &[LayerParts<&[u8]>],
-) -> Option<GoalTexts> {
+    texts: &mut GoalTexts,
+) -> Option<()> {
     let stack = open_stack(alloc, layers).ok()?;
     let names = StackNames::of(alloc, &stack).ok()?;
-    texts_by_names(alloc, inputs, check, &names)
+    push_by_names(alloc, inputs, check, &names, texts)
 }
 
-fn texts_by_names<I: Inputs>(
+fn push_by_names<I: Inputs>(
     alloc: Global,
     inputs: &Again<'_, I>,
     check: &Check<'_>,
     names: &StackNames<'_, '_>,
-) -> Option<GoalTexts> {
-    let asked = texts_asked(alloc, inputs, check, names)?;
-    let certified = texts_certified(alloc, inputs, check, names)?;
-    Some(GoalTexts { asked, certified })
+    texts: &mut GoalTexts,
+) -> Option<()> {
+    push_asked(alloc, inputs, check, names, &mut texts.asked)?;
+    push_certified(alloc, inputs, check, names, &mut texts.certified)
 }
 
-fn texts_asked<I: Inputs>(
+fn push_asked<I: Inputs>(
     alloc: Global,
     inputs: &Again<'_, I>,
     check: &Check<'_>,
     names: &StackNames<'_, '_>,
-) -> Option<Vec<String>> {
+    texts: &mut Vec<String>,
+) -> Option<()> {
     let words = asked_words(alloc, inputs, &check.goals).ok()?;
-    let named = asked_goals(alloc, &words).ok()?;
-    let goals = first_goals(alloc, names.stack(), &named, usize::MAX).ok()?;
-    let mut texts = Vec::new(alloc);
-    for goal in &goals {
-        texts.push(goal_text(alloc, names, goal)?).ok()?;
-    }
-    Some(texts)
+    push_for_words(alloc, names, &words, texts)
 }
 
-fn texts_certified<I: Inputs>(
+fn push_for_words(
+    alloc: Global,
+    names: &StackNames<'_, '_>,
+    words: &[String],
+    texts: &mut Vec<String>,
+) -> Option<()> {
+    let named = asked_goals(alloc, words).ok()?;
+    let goals = first_goals(alloc, names.stack(), &named, usize::MAX).ok()?;
+    push_goals(alloc, names, &goals, texts)
+}
+
+fn push_goals(
+    alloc: Global,
+    names: &StackNames<'_, '_>,
+    goals: &[Goal],
+    texts: &mut Vec<String>,
+) -> Option<()> {
+    for goal in goals {
+        push_goal(alloc, names, goal, texts)?;
+    }
+    Some(())
+}
+
+fn push_certified<I: Inputs>(
     alloc: Global,
     inputs: &Again<'_, I>,
     check: &Check<'_>,
     names: &StackNames<'_, '_>,
-) -> Option<Vec<String>> {
+    texts: &mut Vec<String>,
+) -> Option<()> {
     let json = inputs.read_again(check.certificate)?;
     let certificate = Cert::read_by(alloc, &json, check.locales).ok()?;
-    let mut texts = Vec::new(alloc);
-    for certified in &certificate.goals {
-        texts.push(goal_text(alloc, names, &certified.goal)?).ok()?;
-    }
-    Some(texts)
+    push_goals_of(alloc, names, &certificate.goals, texts)
 }
 
-fn goal_text(alloc: Global, names: &StackNames<'_, '_>, goal: &Goal) -> Option<String> {
-    let mut text = Vec::new(alloc);
-    match goal {
-        Goal::Id(id) => write_goal_words(names, *id, &[], &mut text).ok()?,
-        Goal::Attr { attr, styles } => write_goal_words(names, *attr, styles, &mut text).ok()?,
+fn push_goals_of(
+    alloc: Global,
+    names: &StackNames<'_, '_>,
+    certified: &[CertGoal],
+    texts: &mut Vec<String>,
+) -> Option<()> {
+    for certified in certified {
+        push_goal(alloc, names, &certified.goal, texts)?;
     }
-    String::from_str(alloc, str::from_utf8(&text).ok()?).ok()
+    Some(())
+}
+
+fn push_goal(
+    alloc: Global,
+    names: &StackNames<'_, '_>,
+    goal: &Goal,
+    texts: &mut Vec<String>,
+) -> Option<()> {
+    let mut text = Vec::new(alloc);
+    let written = match goal {
+        Goal::Id(id) => write_goal_words(names, *id, &[], &mut text),
+        Goal::Attr { attr, styles } => write_goal_words(names, *attr, styles, &mut text),
+    };
+    written.ok()?;
+    texts.push(String::from_utf8(text).ok()?).ok()
 }

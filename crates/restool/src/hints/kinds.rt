@@ -1,12 +1,12 @@
 //! JSON texts of one kind where another was expected.
 
-use crate::hints::Asked;
 use crate::hints::devices::is_fit;
-use crate::hints::members::coord_named;
+use crate::hints::members::{Member, coord_named, members_of};
+use crate::hints::text::text_of;
 use crate::request::Request;
-use command_base::Inputs;
-use json_input::{list_of, read_value};
+use json_input::list_of;
 use serde_json::Value;
+use std::alloc::Global;
 
 /// What a JSON text is, as its members say.
 #[derive(Clone, Copy, PartialEq, Eq)]
@@ -18,17 +18,7 @@ pub(crate) enum Kind {
 }
 
 impl Kind {
-    fn name(self) -> &'static str {
-        match self {
-            Kind::Layers => "a list of layers",
-            Kind::Device => "a device",
-            Kind::Box => "a box",
-            Kind::Certificate => "a certificate",
-        }
-    }
-
-    // The same behind `no`.
-    fn bare_name(self) -> &'static str {
+    fn name<'a>(self) -> &'a str {
         match self {
             Kind::Layers => "list of layers",
             Kind::Device => "device",
@@ -37,45 +27,49 @@ impl Kind {
         }
     }
 
-    // What is to be changed that it is such a text, where that is no matter of the order of words.
-    fn form(self) -> &'static str {
-        match self {
-            Kind::Box =>
+    // How to make a text of another kind into this one, where that is no matter of the order of words.
+    fn form_for<'a>(self, other: Kind) -> &'a str {
+        match (self, other) {
+            (Kind::Box, Kind::Device) =>
                 "; a box has a list or a range for each qualifier, as \"density\":[160,320]",
-            Kind::Device => "; a device has one value for each qualifier, as \"density\":320",
-            Kind::Layers | Kind::Certificate => "",
-        }
-    }
-}
-
-impl<I: Inputs> Asked<'_, '_, I> {
-    /// What is said of a file that is of another kind.
-    pub(crate) fn hint_of_kind(&self, expected: Kind, path: &str) -> Option<String> {
-        let kind = self.kind_at(path)?;
-        if kind == expected {
-            return None;
-        }
-        let (name, other) = (kind.name(), expected.bare_name());
-        let behind = match (kind, expected) {
-            (Kind::Box, Kind::Device) | (Kind::Device, Kind::Box) => expected.form(),
+            (Kind::Device, Kind::Box) =>
+                "; a device has one value for each qualifier, as \"density\":320",
             _ => "",
-        };
-        match order_of(self.request) {
-            Some(order) => {
-                format!(in self.alloc; "{path} is {name}, and no {other}{behind}; {order}").ok()
-            }
-            None => format!(in self.alloc; "{path} is {name}, and no {other}{behind}").ok(),
         }
-    }
-
-    fn kind_at(&self, path: &str) -> Option<Kind> {
-        let json = self.inputs.read_again(path)?;
-        let value = read_value(self.alloc, &json).ok()?;
-        kind_of(&value)
     }
 }
 
-fn kind_of(value: &Value) -> Option<Kind> {
+/// A JSON text, and of which kind it was expected to be.
+#[derive(Clone, Copy)]
+pub(crate) struct JsonFile<'a> {
+    pub expected: Kind,
+    pub path: &'a str,
+}
+
+/// What is said of a file that is of another kind.
+pub(crate) fn hint_of_kind(
+    alloc: Global,
+    request: &Request<'_>,
+    file: JsonFile<'_>,
+    kind: Kind,
+) -> Option<String> {
+    let JsonFile { expected, path } = file;
+    text_of(
+        alloc,
+        &[
+            path,
+            " is a ",
+            kind.name(),
+            ", and no ",
+            expected.name(),
+            expected.form_for(kind),
+            order_of(request),
+        ],
+    )
+}
+
+/// The kind of a JSON text.
+pub(crate) fn kind_of(alloc: Global, value: &Value) -> Option<Kind> {
     if let Some(items) = list_of(value) {
         let _table = items.first()?.get("table")?;
         return Some(Kind::Layers);
@@ -83,44 +77,44 @@ fn kind_of(value: &Value) -> Option<Kind> {
     if value.get("goals").is_some() {
         return Some(Kind::Certificate);
     }
-    kind_of_qualifiers(value)
+    kind_of_members(&members_of(alloc, value)?)
 }
 
 // A device has a number or a text for each qualifier, a box a list or a range.
-fn kind_of_qualifiers(members: &Value) -> Option<Kind> {
-    let (mut values, mut sets) = (0_usize, 0_usize);
-    for (name, value) in members.as_object()?.iter() {
-        let coord = coord_named(name.as_str())?;
-        if value.is_array() || value.is_object() {
-            sets = sets.saturating_add(1);
-        } else if is_fit(coord, value) {
-            values = values.saturating_add(1);
+fn kind_of_members(members: &[Member<'_>]) -> Option<Kind> {
+    let mut has_values = false;
+    let mut has_sets = false;
+    for member in members {
+        let coord = coord_named(member.name)?;
+        if member.value.is_array() || member.value.is_object() {
+            has_sets = true;
+        } else if is_fit(coord, member.value) {
+            has_values = true;
         } else {
             return None;
         }
     }
-    match (values, sets) {
-        (0, 0) => None,
-        (0, _) => Some(Kind::Box),
-        (_, 0) => Some(Kind::Device),
+    match (has_values, has_sets) {
+        (true, false) => Some(Kind::Device),
+        (false, true) => Some(Kind::Box),
         _ => None,
     }
 }
 
 // In which order a command takes its files, where it takes several.
-fn order_of(request: &Request<'_>) -> Option<&'static str> {
+fn order_of<'a>(request: &Request<'_>) -> &'a str {
     match request {
-        Request::Query(_) => Some("query takes LAYERS DEVICE ID.."),
-        Request::Explain(_) => Some("explain takes LAYERS DEVICE ID"),
-        Request::Bag(_) => Some("bag takes LAYERS DEVICE ID"),
-        Request::Attr(_) => Some("attr takes LAYERS DEVICE ATTR STYLE.."),
-        Request::Make(_) => Some("make takes LAYERS BOX GOAL.."),
-        Request::Check(_) => Some("check takes LAYERS BOX CERT GOAL.."),
-        Request::Show(_) => Some("show takes LAYERS CERT"),
-        Request::Diff(_) => Some("diff takes OLD NEW BOX NAME.."),
-        Request::Values(_) => Some("values takes LAYERS BOX NAME.."),
-        Request::Unused(_) => Some("unused takes LAYERS BOX NAME.."),
-        Request::Survey(_) => Some("survey takes LAYERS BOX"),
-        _ => None,
+        Request::Query(_) => "; query takes LAYERS DEVICE ID..",
+        Request::Explain(_) => "; explain takes LAYERS DEVICE ID",
+        Request::Bag(_) => "; bag takes LAYERS DEVICE ID",
+        Request::Attr(_) => "; attr takes LAYERS DEVICE ATTR STYLE..",
+        Request::Make(_) => "; make takes LAYERS BOX GOAL..",
+        Request::Check(_) => "; check takes LAYERS BOX CERT GOAL..",
+        Request::Show(_) => "; show takes LAYERS CERT",
+        Request::Diff(_) => "; diff takes OLD NEW BOX NAME..",
+        Request::Values(_) => "; values takes LAYERS BOX NAME..",
+        Request::Unused(_) => "; unused takes LAYERS BOX NAME..",
+        Request::Survey(_) => "; survey takes LAYERS BOX",
+        _ => "",
     }
 }

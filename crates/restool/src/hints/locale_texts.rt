@@ -1,22 +1,37 @@
 //! Texts that give no locale.
 
+use crate::hints::members::is_short;
+use crate::hints::text::text_of;
 use command_base::LocaleRule;
 use locales::read_locale;
 use std::alloc::Global;
 
 /// What to write in place of such a text, or how it is read.
 pub(crate) fn hint_of_locale(alloc: Global, text: &str, rule: LocaleRule) -> Option<String> {
+    if !is_short(text) {
+        return None;
+    }
     if read_locale(text, LocaleRule::Android).is_ok() {
-        return format!(in alloc; "{text} has a script: give --locales android").ok();
+        return text_of(alloc, &[text, " has a script: give --locales android"]);
     }
-    let tag = tag_of(alloc, text)?;
-    if read_locale(tag.as_str(), rule).is_ok() {
-        return format!(in alloc; "write {tag} for {text}").ok();
+    let mut tag = String::new(alloc);
+    push_tag(text, &mut tag)?;
+    let tag = tag.as_str();
+    text_of(
+        alloc,
+        &["write ", tag, " for ", text, advice_for(tag, rule)?],
+    )
+}
+
+// What else to give that a tag is read.
+fn advice_for<'a>(tag: &str, rule: LocaleRule) -> Option<&'a str> {
+    if read_locale(tag, rule).is_ok() {
+        Some("")
+    } else if read_locale(tag, LocaleRule::Android).is_ok() {
+        Some(", and give --locales android")
+    } else {
+        None
     }
-    if read_locale(tag.as_str(), LocaleRule::Android).is_ok() {
-        return format!(in alloc; "write {tag} for {text}, and give --locales android").ok();
-    }
-    None
 }
 
 /// How a subtag of a tag is written.
@@ -28,12 +43,11 @@ enum Case {
 }
 
 // The same subtags as texts of locales have them: es_MX and es-rMX are es-MX, b+sr+Latn is sr-Latn.
-fn tag_of(alloc: Global, text: &str) -> Option<String> {
-    let mut tag = String::new(alloc);
-    for subtag in text.split(|c: char| c == '-' || c == '_' || c == '+') {
-        push_subtag(subtag, &mut tag)?;
+fn push_tag(text: &str, tag: &mut String) -> Option<()> {
+    for subtag in text.split(['-', '_', '+']) {
+        push_subtag(subtag, tag)?;
     }
-    Some(tag)
+    Some(())
 }
 
 fn push_subtag(subtag: &str, tag: &mut String) -> Option<()> {
@@ -45,36 +59,40 @@ fn push_subtag(subtag: &str, tag: &mut String) -> Option<()> {
     }
     tag.push('-').ok()?;
     let subtag = region_behind_r(subtag);
-    match subtag.len() {
-        4 => push_cased(subtag, Case::Title, tag),
-        _ => push_cased(subtag, Case::Upper, tag),
-    }
+    let case = match subtag.len() {
+        4 => Case::Title,
+        _ => Case::Upper,
+    };
+    push_cased(subtag, case, tag)
 }
 
 // A region, where it stands behind an `r`, as in folders of resources.
 fn region_behind_r(subtag: &str) -> &str {
     match subtag.strip_prefix('r') {
-        Some(region)
-            if region
-                .chars()
-                .all(|c| c.is_ascii_uppercase() || c.is_ascii_digit()) => { region }
+        Some(region) if is_region(region.as_bytes()) => region,
         _ => subtag,
     }
 }
 
+fn is_region(letters: &[u8]) -> bool {
+    for letter in letters {
+        if !letter.is_ascii_uppercase() && !letter.is_ascii_digit() {
+            return false;
+        }
+    }
+    true
+}
+
 fn push_cased(subtag: &str, case: Case, tag: &mut String) -> Option<()> {
-    for (place, c) in subtag.chars().enumerate() {
-        let is_upper = match case {
-            Case::Lower => false,
-            Case::Title => place == 0,
-            Case::Upper => true,
-        };
+    let mut is_upper = matches!(case, Case::Title | Case::Upper);
+    for c in subtag.chars() {
         let cased = if is_upper {
             c.to_ascii_uppercase()
         } else {
             c.to_ascii_lowercase()
         };
         tag.push(cased).ok()?;
+        is_upper = matches!(case, Case::Upper);
     }
     Some(())
 }

@@ -1,7 +1,8 @@
 //! What is wrong with a member of a JSON text.
 
 use crate::hints::nearest::Nearest;
-use crate::hints::qualifiers::{meaning, number_of_word};
+use crate::hints::qualifiers::{meaning, name_of, number_of_word};
+use crate::hints::text::{number_text, text_of};
 use command_base::Coord;
 use serde_json::Value;
 use std::alloc::Global;
@@ -14,11 +15,28 @@ pub(crate) fn is_short(text: &str) -> bool {
     text.len() <= MOST_BYTES
 }
 
+/// A member of an object.
+#[derive(Clone, Copy)]
+pub(crate) struct Member<'v> {
+    pub name: &'v str,
+    pub value: &'v Value,
+}
+
+/// The members of an object.
+pub(crate) fn members_of(alloc: Global, value: &Value) -> Option<Vec<Member<'_>>> {
+    let mut members = Vec::new(alloc);
+    for (name, value) in value.as_object()?.iter() {
+        let name = name.as_str();
+        members.push(Member { name, value }).ok()?;
+    }
+    Some(members)
+}
+
 /// The qualifier of a name.
 pub(crate) fn coord_named(name: &str) -> Option<Coord> {
-    for coord in Coord::ALL {
+    for coord in &Coord::ALL {
         if coord.name() == name {
-            return Some(coord);
+            return Some(*coord);
         }
     }
     None
@@ -30,39 +48,79 @@ pub(crate) fn hint_of_name(alloc: Global, name: &str) -> Option<String> {
         return None;
     }
     let mut nearest = Nearest::new(name);
-    for coord in Coord::ALL {
-        nearest.offer(alloc, coord.name())?;
+    for coord in &Coord::ALL {
+        let known = coord.name();
+        nearest.offer(alloc, known, known);
     }
-    match nearest.found() {
-        Some(near) => { format!(in alloc; "\"{name}\" is no qualifier: did you mean {near}?").ok() }
-        None => format!(in alloc;
-            "\"{name}\" is no qualifier; restool device 'config: land-night-xhdpi' prints some"
-        ).ok(),
+    match nearest.found {
+        Some(near) => text_of(
+            alloc,
+            &["\"", name, "\" is no qualifier: did you mean ", near, "?"],
+        ),
+        None => text_of(
+            alloc,
+            &[
+                "\"",
+                name,
+                "\" is no qualifier; restool device 'config: land-night-xhdpi' prints some",
+            ],
+        ),
     }
 }
 
 /// A value that is no number, at a qualifier that takes one.
 pub(crate) fn hint_of_value(alloc: Global, coord: Coord, value: &Value) -> Option<String> {
-    let name = coord.name();
-    let means = meaning(coord);
     let Some(word) = value.as_str() else {
-        return format!(in alloc; "\"{name}\" takes a whole number: {means}").ok();
+        let takes = "\" takes a whole number: ";
+        return text_of(alloc, &["\"", name_of(coord), takes, meaning(coord)]);
     };
     if !is_short(word) {
         return None;
     }
+    hint_of_word(alloc, coord, word)
+}
+
+fn hint_of_word(alloc: Global, coord: Coord, word: &str) -> Option<String> {
+    let name = name_of(coord);
     if let Some(number) = number_of_word(alloc, coord, word) {
-        return format!(in alloc; "\"{word}\" is {number} at \"{name}\"").ok();
+        let number = number_text(alloc, u64::from(number))?;
+        let parts = ["\"", word, "\" is ", number.as_str(), " at \"", name, "\""];
+        return text_of(alloc, &parts);
     }
-    match word.parse::<u32>() {
-        Ok(number) => format!(in alloc; "write {number} without quotes at \"{name}\"").ok(),
-        Err(_) => format!(in alloc; "\"{name}\" takes a number: {means}").ok(),
-    }
+    let Ok(number) = word.parse::<u32>() else {
+        return text_of(alloc, &["\"", name, "\" takes a number: ", meaning(coord)]);
+    };
+    let number = number_text(alloc, u64::from(number))?;
+    text_of(
+        alloc,
+        &[
+            "write ",
+            number.as_str(),
+            " without quotes at \"",
+            name,
+            "\"",
+        ],
+    )
 }
 
 /// A number that no device has.
 pub(crate) fn hint_of_number(alloc: Global, coord: Coord, number: u64) -> Option<String> {
-    let name = coord.name();
-    let means = meaning(coord);
-    format!(in alloc; "\"{name}\" is never {number}: {means}").ok()
+    let number = number_text(alloc, number)?;
+    text_of(
+        alloc,
+        &[
+            "\"",
+            name_of(coord),
+            "\" is never ",
+            number.as_str(),
+            ": ",
+            meaning(coord),
+        ],
+    )
+}
+
+/// What is said of an item of a list, behind its place.
+pub(crate) fn hint_at_item(alloc: Global, place: usize, mark: &str, hint: &str) -> Option<String> {
+    let place = number_text(alloc, place as u64)?;
+    text_of(alloc, &["item ", place.as_str(), mark, hint])
 }

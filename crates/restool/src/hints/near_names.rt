@@ -4,6 +4,7 @@ use crate::hints::Asked;
 use crate::hints::again::Again;
 use crate::hints::members::is_short;
 use crate::hints::nearest::Nearest;
+use crate::hints::text::text_of;
 use command_base::{Inputs, Side};
 use std::alloc::Global;
 use std::str;
@@ -22,138 +23,151 @@ const APP: &str = "0x7f";
 #[derive(Clone, Copy)]
 struct Parts<'w> {
     package: Option<&'w str>,
+    /// The type and the entry.
+    name: &'w str,
     type_name: &'w str,
     entry_name: &'w str,
 }
 
 impl<'w> Parts<'w> {
-    fn of(name: &'w str) -> Option<Parts<'w>> {
-        let (before, entry_name) = name.split_once('/')?;
-        let (package, type_name) = match before.split_once(':') {
-            Some((package, type_name)) => (Some(package), type_name),
-            None => (None, before),
+    fn of(word: &'w str) -> Option<Parts<'w>> {
+        let (package, name) = match word.split_once(':') {
+            Some((package, name)) if !package.contains('/') => (Some(package), name),
+            _ => (None, word),
         };
+        let (type_name, entry_name) = name.split_once('/')?;
         Some(Parts {
             package,
+            name,
             type_name,
             entry_name,
         })
     }
+
+    fn is_of_all(self) -> bool {
+        self.entry_name == ALL
+    }
+
+    // Whether an id is of the package that is wanted, by its name or its number; without one, of the app.
+    fn wants(self, id: &str, package: Option<&str>) -> bool {
+        let number = id.get(..PACKAGE_SIZE);
+        match self.package {
+            Some(wanted) => package == Some(wanted) || number == Some(wanted),
+            None => number == Some(APP),
+        }
+    }
 }
 
 /// The names that are nearest to one that is wanted.
-#[derive(Drop)]
-struct NearNames<'w> {
+#[derive(Clone, Copy)]
+struct NearNames<'w, 'n> {
     wanted: Parts<'w>,
     /// Of the package that is wanted, or else of the app.
-    own: Nearest<'w>,
-    others: Nearest<'w>,
+    own: Nearest<'w, 'n>,
+    others: Nearest<'w, 'n>,
+}
+
+impl<'w, 'n> NearNames<'w, 'n> {
+    fn to(wanted: Parts<'w>) -> NearNames<'w, 'n> {
+        let nearest = if wanted.is_of_all() {
+            Nearest::of_part(wanted.name, wanted.type_name)
+        } else {
+            Nearest::new(wanted.name)
+        };
+        NearNames {
+            wanted,
+            own: nearest,
+            others: nearest,
+        }
+    }
+
+    // Offers what a line of `restool ids` has.
+    fn offer_line(&mut self, alloc: Global, line: &'n str) {
+        let Some((id, word)) = named_in(line) else {
+            return;
+        };
+        if let Some(parts) = Parts::of(word) {
+            let is_own = self.wanted.wants(id, parts.package);
+            self.offer(alloc, is_own, parts, word);
+        }
+    }
+
+    fn offer(&mut self, alloc: Global, is_own: bool, parts: Parts<'n>, word: &'n str) {
+        let text = if self.wanted.is_of_all() {
+            parts.type_name
+        } else {
+            parts.name
+        };
+        if is_own {
+            self.own.offer(alloc, text, word);
+        } else {
+            self.others.offer(alloc, text, word);
+        }
+    }
+
+    // Of the package that is wanted any, else the nearest.
+    fn found(self) -> Option<&'n str> {
+        let own_first = self.wanted.package.is_some() || self.own.is_as_near_as(&self.others);
+        if own_first {
+            self.own.found.or(self.others.found)
+        } else {
+            self.others.found.or(self.own.found)
+        }
+    }
 }
 
 impl<I: Inputs> Asked<'_, '_, I> {
     /// The name of the base layers that is nearest to a word.
     pub(crate) fn hint_of_missing(&self, word: &str) -> Option<String> {
-        let alloc = self.alloc;
         let wanted = Parts::of(word.strip_prefix('@').unwrap_or(word))?;
-        let text = format!(in alloc; "{}/{}", wanted.type_name, wanted.entry_name).ok()?;
-        if !is_short(text.as_str()) {
+        if !is_short(wanted.name) {
             return None;
         }
-        let found = self.nearest_name(wanted, text.as_str())?;
-        format!(in alloc; "did you mean {found}?").ok()
+        let mut printed = Vec::new(self.alloc);
+        self.print_all_ids(&mut printed)?;
+        hint_of_near(self.alloc, wanted, &printed)
     }
 
-    fn nearest_name(&self, wanted: Parts<'_>, text: &str) -> Option<String> {
-        let mut near = NearNames {
-            wanted,
-            own: Nearest::new(text),
-            others: Nearest::new(text),
-        };
-        self.offer_all(&mut near)?;
-        near.found()
-    }
-
-    // Offers the names of all base layers.
-    fn offer_all(&self, near: &mut NearNames<'_>) -> Option<()> {
+    // Prints the ids of all base layers.
+    fn print_all_ids(&self, printed: &mut Vec<u8>) -> Option<()> {
+        let again = self.again();
         let old = self.request.layers(Side::Old)?;
-        near.offer_names(self.alloc, &self.again(), old)?;
+        print_ids(self.alloc, &again, old, printed)?;
         let new = self.request.layers(Side::New)?;
         if new == old {
             return Some(());
         }
-        near.offer_names(self.alloc, &self.again(), new)
+        print_ids(self.alloc, &again, new, printed)
     }
 }
 
-impl NearNames<'_> {
-    fn offer_names<I: Inputs>(
-        &mut self,
-        alloc: Global,
-        inputs: &Again<'_, I>,
-        layers: &str,
-    ) -> Option<()> {
-        let printed = ids_of(alloc, inputs, layers)?;
-        self.offer_lines(alloc, &printed)
-    }
+fn hint_of_near(alloc: Global, wanted: Parts<'_>, printed: &[u8]) -> Option<String> {
+    let mut near = NearNames::to(wanted);
+    offer_lines(alloc, str::from_utf8(printed).ok()?, &mut near);
+    hint_of_found(alloc, wanted, near.found()?)
+}
 
-    fn offer_lines(&mut self, alloc: Global, printed: &[u8]) -> Option<()> {
-        for line in str::from_utf8(printed).ok()?.lines() {
-            self.offer_line(alloc, line)?;
-        }
-        Some(())
+fn offer_lines<'n>(alloc: Global, text: &'n str, near: &mut NearNames<'_, 'n>) {
+    for line in text.lines() {
+        near.offer_line(alloc, line);
     }
+}
 
-    // Offers what a line of `restool ids` has.
-    fn offer_line(&mut self, alloc: Global, line: &str) -> Option<()> {
-        let Some((id, word)) = named_in(line) else {
-            return Some(());
-        };
-        let parts = Parts::of(word)?;
-        let is_own = self.is_own(id, parts.package);
-        if self.wanted.entry_name != ALL {
-            let name = format!(in alloc; "{}/{}", parts.type_name, parts.entry_name).ok()?;
-            return self.offer(alloc, is_own, name.as_str(), word);
-        }
-        let all = format!(in alloc; "{}/{ALL}", parts.type_name).ok()?;
-        let word = self.word_of_all(alloc, parts.package, all.as_str())?;
-        self.offer(alloc, is_own, all.as_str(), word.as_str())
+// A name that was found; for all entries of a type, behind its package where one is wanted.
+fn hint_of_found(alloc: Global, wanted: Parts<'_>, found: &str) -> Option<String> {
+    if !wanted.is_of_all() {
+        return text_of(alloc, &["did you mean ", found, "?"]);
     }
-
-    // The word for all entries of a type, behind its package where one is wanted.
-    fn word_of_all(&self, alloc: Global, package: Option<&str>, all: &str) -> Option<String> {
-        match (self.wanted.package, package) {
-            (Some(_), Some(package)) => format!(in alloc; "{package}:{all}").ok(),
-            _ => String::from_str(alloc, all).ok(),
-        }
-    }
-
-    fn offer(&mut self, alloc: Global, is_own: bool, text: &str, word: &str) -> Option<()> {
-        if is_own {
-            self.own.offer_as(alloc, text, word)
-        } else {
-            self.others.offer_as(alloc, text, word)
-        }
-    }
-
-    // Whether an id is of the package that is wanted, by its name or its number; without one, of the app.
-    fn is_own(&self, id: &str, package: Option<&str>) -> bool {
-        let number = id.get(..PACKAGE_SIZE);
-        match self.wanted.package {
-            Some(wanted) => package == Some(wanted) || number == Some(wanted),
-            None => number == Some(APP),
-        }
-    }
-
-    // Of the package that is wanted any, else the nearest.
-    fn found(self) -> Option<String> {
-        let own_first = self.wanted.package.is_some() || self.own.is_as_near_as(&self.others);
-        let NearNames { own, others, .. } = self;
-        if own_first {
-            own.found().or(others.found())
-        } else {
-            others.found().or(own.found())
-        }
-    }
+    let Parts {
+        package,
+        type_name,
+        ..
+    } = Parts::of(found)?;
+    let (package, colon) = match package {
+        Some(package) if wanted.package.is_some() => (package, ":"),
+        _ => ("", ""),
+    };
+    text_of(alloc, &["did you mean ", package, colon, type_name, "/*?"])
 }
 
 /// The name of a resource that has the entry that a word is, where that has no type.
@@ -168,7 +182,8 @@ pub(crate) fn hint_of_bare<I: Inputs>(
     }
     let again = Again { inputs };
     for layers in words {
-        if let Some(printed) = ids_of(alloc, &again, layers.as_str()) {
+        let mut printed = Vec::new(alloc);
+        if print_ids(alloc, &again, layers.as_str(), &mut printed).is_some() {
             return hint_of_entry(alloc, &printed, word);
         }
     }
@@ -177,25 +192,31 @@ pub(crate) fn hint_of_bare<I: Inputs>(
 
 fn hint_of_entry(alloc: Global, printed: &[u8], word: &str) -> Option<String> {
     let mut nearest = Nearest::new(word);
-    offer_entries(alloc, printed, &mut nearest)?;
-    let found = nearest.found()?;
-    format!(in alloc; "a name has its type before it: did you mean {found}?").ok()
-}
-
-fn offer_entries(alloc: Global, printed: &[u8], nearest: &mut Nearest<'_>) -> Option<()> {
     for line in str::from_utf8(printed).ok()?.lines() {
-        if let Some((_id, name)) = named_in(line) {
-            nearest.offer_as(alloc, Parts::of(name)?.entry_name, name)?;
+        if let Some((entry_name, name)) = entry_in(line) {
+            nearest.offer(alloc, entry_name, name);
         }
     }
+    let behind = "a name has its type before it: did you mean ";
+    text_of(alloc, &[behind, nearest.found?, "?"])
+}
+
+// Prints what `restool ids` prints of layers.
+fn print_ids<I: Inputs>(
+    alloc: Global,
+    inputs: &Again<'_, I>,
+    layers: &str,
+    printed: &mut Vec<u8>,
+) -> Option<()> {
+    let _status = Ids { layers }.answer(alloc, inputs, printed).ok()?;
     Some(())
 }
 
-// What `restool ids` prints of layers.
-fn ids_of<I: Inputs>(alloc: Global, inputs: &Again<'_, I>, layers: &str) -> Option<Vec<u8>> {
-    let mut printed = Vec::new(alloc);
-    Ids { layers }.answer(alloc, inputs, &mut printed).ok()?;
-    Some(printed)
+// The entry and the whole name in a line of `restool ids`.
+fn entry_in(line: &str) -> Option<(&str, &str)> {
+    let (_id, name) = named_in(line)?;
+    let parts = Parts::of(name)?;
+    Some((parts.entry_name, name))
 }
 
 // The id and the name in a line of `restool ids`, where that is a word that asks for it.

@@ -1,6 +1,7 @@
 //! Overlays of which nothing maps.
 
 use crate::hints::Asked;
+use crate::hints::text::{number_text, text_of};
 use command_base::{
     Inputs, LayerFiles, LayerParts, ListedLayer, Side, has_overlays, layers_in_word,
 };
@@ -26,16 +27,23 @@ impl<I: Inputs> Asked<'_, '_, I> {
         if !has_overlays(word) {
             return None;
         }
-        let listed = layers_in_word(self.alloc, word).ok()?;
         let files = LayerFiles::read(self.alloc, &self.again(), word).ok()?;
-        hint_of_files(self.alloc, &listed, &files)
+        hint_of_files(self.alloc, word, &files)
     }
 }
 
-fn hint_of_files(alloc: Global, listed: &[ListedLayer<'_>], files: &LayerFiles) -> Option<String> {
-    for (place, (_table, map)) in files.layers(alloc).ok()?.iter().enumerate() {
+fn hint_of_files(alloc: Global, word: &str, files: &LayerFiles) -> Option<String> {
+    let layers = files.layers(alloc).ok()?;
+    let place = place_of_nothing(&layers)?;
+    let listed = layers_in_word(alloc, word).ok()?;
+    hint_of_nothing(alloc, &listed, place)
+}
+
+// The first layer of which nothing maps.
+fn place_of_nothing(layers: &[LayerParts<&[u8]>]) -> Option<usize> {
+    for (place, (_table, map)) in layers.iter().enumerate() {
         if *map == Some(NOTHING) {
-            return hint_of_nothing(alloc, listed, place);
+            return Some(place);
         }
     }
     None
@@ -44,9 +52,21 @@ fn hint_of_files(alloc: Global, listed: &[ListedLayer<'_>], files: &LayerFiles) 
 fn hint_of_nothing(alloc: Global, listed: &[ListedLayer<'_>], place: usize) -> Option<String> {
     let overlay = listed.get(place)?;
     let target = listed.get(overlay.base?)?;
-    format!(in alloc;
-        "nothing of layer {place}, {}, maps to {}: does it stand behind the right base?",
-        overlay.path, target.path
+    nothing_maps(alloc, place, overlay.path, target.path)
+}
+
+fn nothing_maps(alloc: Global, place: usize, overlay: &str, target: &str) -> Option<String> {
+    let place = number_text(alloc, place as u64)?;
+    text_of(
+        alloc,
+        &[
+            "nothing of layer ",
+            place.as_str(),
+            ", ",
+            overlay,
+            ", maps to ",
+            target,
+            ": does it stand behind the right base?",
+        ],
     )
-    .ok()
 }

@@ -1,11 +1,17 @@
 //! What may stand at a qualifier.
 
+use crate::hints::text::text_of;
 use command_base::{Coord, LocaleRule};
 use config_words::read_config_by;
 use std::alloc::Global;
 
+/// The name of a qualifier, to stand among other texts.
+pub(crate) fn name_of<'a>(coord: Coord) -> &'a str {
+    coord.name()
+}
+
 /// What the numbers of a qualifier mean.
-pub(crate) fn meaning(coord: Coord) -> &'static str {
+pub(crate) fn meaning<'a>(coord: Coord) -> &'a str {
     match coord {
         Coord::Mcc => "a country code, as 310",
         Coord::Mnc => "a network code, as 4, or 65535 for 00",
@@ -34,10 +40,11 @@ pub(crate) fn meaning(coord: Coord) -> &'static str {
 /// The number that a word of resource folders is at a qualifier, as `xhdpi` is 320.
 pub(crate) fn number_of_word(alloc: Global, coord: Coord, word: &str) -> Option<u32> {
     // A device has a density.
-    let line = match coord {
-        Coord::Density => format!(in alloc; "{word}").ok()?,
-        _ => format!(in alloc; "{word}-mdpi").ok()?,
+    let density = match coord {
+        Coord::Density => "",
+        _ => "-mdpi",
     };
+    let line = text_of(alloc, &[word, density])?;
     match read_config_by(line.as_str(), LocaleRule::LanguageAndRegion) {
         Ok(device) => match device.get(coord) {
             0 => None,

@@ -2,6 +2,7 @@
 
 use crate::hints::Asked;
 use crate::hints::members::is_short;
+use crate::hints::text::{number_text, text_of};
 use command_base::{Inputs, LocaleRule, Named};
 use config_words::{ConfigWordFault, read_config_by};
 use names::file_path;
@@ -11,15 +12,7 @@ use std::str;
 /// How many hexadecimal digits an id has.
 const ID_DIGITS: usize = 8;
 
-/// What stands before a reference to a new id, to a resource, and to an attribute.
-const SIGNS: [&str; 3] = ["@+", "@", "?"];
-
 const BYTE_ORDER_MARK: char = '\u{feff}';
-
-/// A word that names no rule of locales.
-pub(crate) fn hint_of_rule(alloc: Global) -> Option<String> {
-    format!(in alloc; "write --locales android, or leave it out").ok()
-}
 
 /// What to write in place of a word that asks for no resource.
 pub(crate) fn hint_of_bad_id(alloc: Global, word: &str) -> Option<String> {
@@ -28,7 +21,7 @@ pub(crate) fn hint_of_bad_id(alloc: Global, word: &str) -> Option<String> {
     }
     let meant = meant_by(alloc, word)?;
     match Named::read(meant.as_str()) {
-        Some(_) => format!(in alloc; "write {meant}").ok(),
+        Some(_) => text_of(alloc, &["write ", meant.as_str()]),
         None => None,
     }
 }
@@ -40,45 +33,50 @@ fn hint_of_columns(alloc: Global, word: &str) -> Option<String> {
         return None;
     }
     let _id = Named::read(id)?;
-    format!(in alloc; "a word has an id or a name, and not both: write {id}").ok()
+    text_of(
+        alloc,
+        &["a word has an id or a name, and not both: write ", id],
+    )
 }
 
 // The word that it is near to: that of a field of the class R, of eight digits, or of a reference in XML.
 fn meant_by(alloc: Global, word: &str) -> Option<String> {
     if let Some(field) = word.strip_prefix("R.") {
-        let (type_name, entry_name) = field.split_once('.')?;
-        return format!(in alloc; "{type_name}/{entry_name}").ok();
+        return name_of_field(alloc, None, field);
     }
     if let Some((package, field)) = word.split_once(".R.") {
-        let (type_name, entry_name) = field.split_once('.')?;
-        return format!(in alloc; "{package}:{type_name}/{entry_name}").ok();
+        return name_of_field(alloc, Some(package), field);
     }
     if word.len() == ID_DIGITS {
-        return format!(in alloc; "0x{word}").ok();
+        return text_of(alloc, &["0x", word]);
     }
-    let name = name_in_reference(word)?;
-    String::from_str(alloc, name).ok()
+    text_of(alloc, &[name_in_reference(word)?])
 }
 
-// What stands behind the sign of a reference, as XML has it.
+fn name_of_field<'w>(alloc: Global, package: Option<&'w str>, field: &'w str) -> Option<String> {
+    let (type_name, entry_name) = field.split_once('.')?;
+    let (package, colon) = match package {
+        Some(package) => (package, ":"),
+        None => ("", ""),
+    };
+    text_of(alloc, &[package, colon, type_name, "/", entry_name])
+}
+
+// What stands behind the sign of a reference to a resource, to a new id, or to an attribute, as XML has it.
 fn name_in_reference(word: &str) -> Option<&str> {
-    for sign in SIGNS {
-        if let Some(name) = word.strip_prefix(sign) {
-            return Some(name);
-        }
+    match word.strip_prefix('@') {
+        Some(name) => Some(name.strip_prefix('+').unwrap_or(name)),
+        None => word.strip_prefix('?'),
     }
-    None
 }
 
 impl<I: Inputs> Asked<'_, '_, I> {
     /// Where a word stands that asks for nothing that is there, if that is in a file, and a hint for it.
     pub(crate) fn hint_of_word(&self, word: &str, hint: Option<String>) -> Option<String> {
-        let Some(at) = self.place_of_word(word) else {
-            return hint;
-        };
-        match hint {
-            Some(hint) => format!(in self.alloc; "{at}: {hint}").ok(),
-            None => Some(at),
+        match (self.place_of_word(word), hint) {
+            (Some(at), Some(hint)) => text_of(self.alloc, &[at.as_str(), ": ", hint.as_str()]),
+            (Some(at), None) => Some(at),
+            (None, hint) => hint,
         }
     }
 
@@ -94,8 +92,9 @@ impl<I: Inputs> Asked<'_, '_, I> {
     // The file and the line of a word.
     fn place_of_word(&self, word: &str) -> Option<String> {
         for asked in self.request.words() {
-            if let Some(place) = self.place_in(asked, word) {
-                return Some(place);
+            let place = self.place_in(*asked, word);
+            if place.is_some() {
+                return place;
             }
         }
         None
@@ -105,44 +104,61 @@ impl<I: Inputs> Asked<'_, '_, I> {
     fn place_in(&self, asked: &str, word: &str) -> Option<String> {
         let path = file_path(asked)?;
         let bytes = self.inputs.read_again(path)?;
-        let number = line_with(&bytes, word)?;
-        format!(in self.alloc; "{path}, line {number}").ok()
+        line_with(self.alloc, path, &bytes, word)
     }
 
     /// What a path may have been meant for, where no file lies.
     pub(crate) fn hint_of_no_file(&self, path: &str) -> Option<String> {
         if path.is_empty() {
-            return format!(in self.alloc;
-                "a word is empty: did the command fail that was to print it?"
-            ).ok();
+            let empty = "a word is empty: did the command fail that was to print it?";
+            return text_of(self.alloc, &[empty]);
         }
         if self.request.device() == Some(path) {
             return hint_of_unmarked(self.alloc, path);
         }
-        let mut words = self.request.words().iter();
-        if !words.any(|word| file_path(word) == Some(path)) {
-            return None;
-        }
-        let name = path.strip_prefix('+').unwrap_or(path);
-        match Named::read(name) {
-            Some(_) => format!(in self.alloc;
-                "a word with @ before it names a file of words; for the resource write {name}"
-            ).ok(),
-            None => None,
+        if name_file(self.request.words(), path) {
+            hint_of_marked(self.alloc, path)
+        } else {
+            None
         }
     }
 }
 
-// The number of the line that is a word.
-fn line_with(bytes: &[u8], word: &str) -> Option<usize> {
-    let text = str::from_utf8(bytes).ok()?;
+// Whether some word names the file at a path.
+fn name_file(words: &[&str], path: &str) -> bool {
+    for word in words {
+        if file_path(*word) == Some(path) {
+            return true;
+        }
+    }
+    false
+}
+
+// A file and the number of its line that is a word.
+fn line_with(alloc: Global, path: &str, bytes: &[u8], word: &str) -> Option<String> {
+    let number = number_of_line(str::from_utf8(bytes).ok()?, word)?;
+    let number = number_text(alloc, number)?;
+    text_of(alloc, &[path, ", line ", number.as_str()])
+}
+
+fn number_of_line(text: &str, word: &str) -> Option<u64> {
     let text = text.strip_prefix(BYTE_ORDER_MARK).unwrap_or(text);
-    for (place, line) in text.split('\n').enumerate() {
+    let mut number = 0_u64;
+    for line in text.lines() {
+        number = number.saturating_add(1);
         if line.trim() == word {
-            return Some(place.saturating_add(1));
+            return Some(number);
         }
     }
     None
+}
+
+// A name with the sign of a file before it.
+fn hint_of_marked(alloc: Global, path: &str) -> Option<String> {
+    let name = path.strip_prefix('+').unwrap_or(path);
+    let _named = Named::read(name)?;
+    let files = "a word with @ before it names a file of words; for the resource write ";
+    text_of(alloc, &[files, name])
 }
 
 // A device as Android writes it, without what stands before it.
@@ -152,8 +168,13 @@ fn hint_of_unmarked(alloc: Global, word: &str) -> Option<String> {
     }
     match read_config_by(word, LocaleRule::Android) {
         Err(ConfigWordFault::Qualifier(_)) => None,
-        Ok(_) | Err(ConfigWordFault::Device(_)) => format!(in alloc;
-            "write 'config: {word}' for a device as Android writes it"
-        ).ok(),
+        Ok(_) | Err(ConfigWordFault::Device(_)) => text_of(
+            alloc,
+            &[
+                "write 'config: ",
+                word,
+                "' for a device as Android writes it",
+            ],
+        ),
     }
 }
