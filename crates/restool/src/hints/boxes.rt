@@ -149,8 +149,14 @@ fn hint_of_ends(alloc: Global, coord: Coord, range: &Value) -> Option<String> {
             return hint_of_end(alloc, coord, *end, value);
         }
     }
-    let has = "\" has from and to, and nothing else";
-    text_of(alloc, &["a range at \"", name_of(coord), has])
+    text_of(
+        alloc,
+        &[
+            "a range at \"",
+            name_of(coord),
+            "\" has from and to, and nothing else",
+        ],
+    )
 }
 
 fn hint_of_end(alloc: Global, coord: Coord, end: &str, value: &Value) -> Option<String> {
@@ -160,17 +166,27 @@ fn hint_of_end(alloc: Global, coord: Coord, end: &str, value: &Value) -> Option<
 
 // What is neither a list nor a range.
 fn hint_of_other(alloc: Global, coord: Coord, value: &Value) -> Option<String> {
-    let name = name_of(coord);
-    let Some(number) = value.as_u64() else {
-        let takes = "\" takes a list or a range, {\"from\":1,\"to\":2}: ";
-        return text_of(alloc, &["\"", name, takes, meaning(coord)]);
-    };
+    match value.as_u64() {
+        Some(number) => hint_of_single(alloc, coord, number),
+        None => text_of(
+            alloc,
+            &[
+                "\"",
+                name_of(coord),
+                "\" takes a list or a range, {\"from\":1,\"to\":2}: ",
+                meaning(coord),
+            ],
+        ),
+    }
+}
+
+fn hint_of_single(alloc: Global, coord: Coord, number: u64) -> Option<String> {
     let number = number_text(alloc, number)?;
     text_of(
         alloc,
         &[
             "\"",
-            name,
+            name_of(coord),
             "\" takes a list in a box: [",
             number.as_str(),
             "]",

@@ -59,8 +59,14 @@ pub(crate) fn is_fit(coord: Coord, value: &Value) -> bool {
 
 fn hint_of_unfit(alloc: Global, coord: Coord, value: &Value) -> Option<String> {
     if value.is_array() || value.is_object() {
-        let has = "\" has one value in a device; lists and ranges are for boxes";
-        return text_of(alloc, &["\"", name_of(coord), has]);
+        return text_of(
+            alloc,
+            &[
+                "\"",
+                name_of(coord),
+                "\" has one value in a device; lists and ranges are for boxes",
+            ],
+        );
     }
     match coord {
         Coord::Locale => text_of(alloc, &["\"locale\" takes a text, as \"es-MX\""]),

@@ -49,8 +49,7 @@ pub(crate) fn hint_of_name(alloc: Global, name: &str) -> Option<String> {
     }
     let mut nearest = Nearest::new(name);
     for coord in &Coord::ALL {
-        let known = coord.name();
-        nearest.offer(alloc, known, known);
+        nearest.offer(alloc, coord.name(), name_of(*coord));
     }
     match nearest.found {
         Some(near) => text_of(
@@ -71,8 +70,15 @@ pub(crate) fn hint_of_name(alloc: Global, name: &str) -> Option<String> {
 /// A value that is no number, at a qualifier that takes one.
 pub(crate) fn hint_of_value(alloc: Global, coord: Coord, value: &Value) -> Option<String> {
     let Some(word) = value.as_str() else {
-        let takes = "\" takes a whole number: ";
-        return text_of(alloc, &["\"", name_of(coord), takes, meaning(coord)]);
+        return text_of(
+            alloc,
+            &[
+                "\"",
+                name_of(coord),
+                "\" takes a whole number: ",
+                meaning(coord),
+            ],
+        );
     };
     if !is_short(word) {
         return None;
@@ -81,23 +87,33 @@ pub(crate) fn hint_of_value(alloc: Global, coord: Coord, value: &Value) -> Optio
 }
 
 fn hint_of_word(alloc: Global, coord: Coord, word: &str) -> Option<String> {
-    let name = name_of(coord);
     if let Some(number) = number_of_word(alloc, coord, word) {
         let number = number_text(alloc, u64::from(number))?;
-        let parts = ["\"", word, "\" is ", number.as_str(), " at \"", name, "\""];
-        return text_of(alloc, &parts);
+        return hint_of_meant(alloc, word, number.as_str(), coord.name());
     }
-    let Ok(number) = word.parse::<u32>() else {
-        return text_of(alloc, &["\"", name, "\" takes a number: ", meaning(coord)]);
-    };
-    let number = number_text(alloc, u64::from(number))?;
+    match word.parse::<u32>() {
+        Ok(number) => hint_of_quotes(alloc, coord, u64::from(number)),
+        Err(_) => text_of(
+            alloc,
+            &["\"", name_of(coord), "\" takes a number: ", meaning(coord)],
+        ),
+    }
+}
+
+// A word of resource folders.
+fn hint_of_meant(alloc: Global, word: &str, number: &str, name: &str) -> Option<String> {
+    text_of(alloc, &["\"", word, "\" is ", number, " at \"", name, "\""])
+}
+
+fn hint_of_quotes(alloc: Global, coord: Coord, number: u64) -> Option<String> {
+    let number = number_text(alloc, number)?;
     text_of(
         alloc,
         &[
             "write ",
             number.as_str(),
             " without quotes at \"",
-            name,
+            name_of(coord),
             "\"",
         ],
     )

@@ -192,13 +192,23 @@ pub(crate) fn hint_of_bare<I: Inputs>(
 
 fn hint_of_entry(alloc: Global, printed: &[u8], word: &str) -> Option<String> {
     let mut nearest = Nearest::new(word);
-    for line in str::from_utf8(printed).ok()?.lines() {
-        if let Some((entry_name, name)) = entry_in(line) {
-            nearest.offer(alloc, entry_name, name);
-        }
-    }
+    offer_entries(alloc, str::from_utf8(printed).ok()?, &mut nearest);
     let behind = "a name has its type before it: did you mean ";
     text_of(alloc, &[behind, nearest.found?, "?"])
+}
+
+fn offer_entries<'n>(alloc: Global, text: &'n str, nearest: &mut Nearest<'_, 'n>) {
+    for line in text.lines() {
+        if let Some((_id, name)) = named_in(line) {
+            offer_entry(alloc, name, nearest);
+        }
+    }
+}
+
+fn offer_entry<'n>(alloc: Global, name: &'n str, nearest: &mut Nearest<'_, 'n>) {
+    if let Some((_type_name, entry_name)) = name.split_once('/') {
+        nearest.offer(alloc, entry_name, name);
+    }
 }
 
 // Prints what `restool ids` prints of layers.
@@ -210,13 +220,6 @@ fn print_ids<I: Inputs>(
 ) -> Option<()> {
     let _status = Ids { layers }.answer(alloc, inputs, printed).ok()?;
     Some(())
-}
-
-// The entry and the whole name in a line of `restool ids`.
-fn entry_in(line: &str) -> Option<(&str, &str)> {
-    let (_id, name) = named_in(line)?;
-    let parts = Parts::of(name)?;
-    Some((parts.entry_name, name))
 }
 
 // The id and the name in a line of `restool ids`, where that is a word that asks for it.

@@ -1,0 +1,125 @@
+//! Files of layers that are not as they have to be.
+
+use crate::hints::Asked;
+use crate::hints::content::Expected;
+use crate::hints::text::text_of;
+use command_base::{
+    ApkFault, Inputs, LayerParts, MapFault, STANDARD_INPUT, Side, TableFault, ToolFault,
+};
+use std::alloc::Global;
+
+/// What is wrong with a file of a layer.
+#[derive(Clone, Copy)]
+enum Wrong {
+    /// It has something else.
+    No(Expected),
+    /// The table of an apk is compressed.
+    Compressed,
+}
+
+/// Which layer a fault is of.
+#[derive(Clone, Copy)]
+struct LayerAt {
+    /// Where two stacks are compared, the one that has it.
+    side: Side,
+    place: usize,
+}
+
+impl<I: Inputs> Asked<'_, '_, I> {
+    /// What is said of a fault of a layer, or of a table that is read alone.
+    pub(crate) fn hint_of_layer(&self, fault: ToolFault) -> Option<String> {
+        let wrong = wrong_by(fault)?;
+        let path = self.path_of(layer_with(fault), wrong)?;
+        let path = path.as_str();
+        match wrong {
+            Wrong::No(expected) => self.hint_of_content(expected, path),
+            Wrong::Compressed => text_of(
+                self.alloc,
+                &[
+                    "unpack its table: unzip -p ",
+                    path,
+                    " resources.arsc >a.arsc",
+                ],
+            ),
+        }
+    }
+
+    // The path of the file.
+    fn path_of(&self, at: LayerAt, wrong: Wrong) -> Option<String> {
+        match self.request.layers(at.side) {
+            Some(word) => path_among(self.alloc, &self.listed_paths(word)?, at.place, wrong),
+            None => own_path(self.alloc, self.request.table(at.place)?),
+        }
+    }
+}
+
+fn wrong_by(fault: ToolFault) -> Option<Wrong> {
+    match fault {
+        ToolFault::Apk(fault) | ToolFault::LayerApk(_, fault) | ToolFault::SideApk(_, _, fault) =>
+            wrong_with_apk(fault),
+        ToolFault::Table(fault)
+        | ToolFault::LayerTable(_, fault)
+        | ToolFault::SideTable(_, _, fault) => wrong_with_table(fault),
+        ToolFault::LayerMap(_, MapFault::Syntax) | ToolFault::SideMap(_, _, MapFault::Syntax) => {
+            Some(Wrong::No(Expected::Map))
+        }
+        _ => None,
+    }
+}
+
+fn wrong_with_apk(fault: ApkFault) -> Option<Wrong> {
+    match fault {
+        ApkFault::NotZip => Some(Wrong::No(Expected::Apk)),
+        ApkFault::Compressed => Some(Wrong::Compressed),
+        _ => None,
+    }
+}
+
+fn wrong_with_table(fault: TableFault) -> Option<Wrong> {
+    match fault {
+        TableFault::NotTable | TableFault::Chunk(_) => Some(Wrong::No(Expected::Table)),
+        _ => None,
+    }
+}
+
+fn layer_with(fault: ToolFault) -> LayerAt {
+    match fault {
+        ToolFault::LayerApk(place, _)
+        | ToolFault::LayerTable(place, _)
+        | ToolFault::LayerMap(place, _) => LayerAt {
+            side: Side::Old,
+            place,
+        },
+        ToolFault::SideApk(side, place, _)
+        | ToolFault::SideTable(side, place, _)
+        | ToolFault::SideMap(side, place, _) => LayerAt { side, place },
+        _ => LayerAt {
+            side: Side::Old,
+            place: 0,
+        },
+    }
+}
+
+// The path of a layer's table, or of its id map.
+fn path_among(
+    alloc: Global,
+    paths: &[LayerParts<String>],
+    place: usize,
+    wrong: Wrong,
+) -> Option<String> {
+    let (table, map) = paths.get(place)?;
+    match (wrong, map) {
+        (Wrong::No(Expected::Map), Some(map)) => text_of(alloc, &[map.as_str()]),
+        (Wrong::No(Expected::Map), None) => None,
+        _ => text_of(alloc, &[table.as_str()]),
+    }
+}
+
+// That of a table with a word of its own, where this is a file.
+fn own_path(alloc: Global, word: &str) -> Option<String> {
+    if word == STANDARD_INPUT {
+        None
+    } else {
+        text_of(alloc, &[word])
+    }
+}
