@@ -2,8 +2,8 @@
 
 use crate::hints::locale_texts::hint_of_locale;
 use crate::hints::members::{
-    Member, coord_named, hint_at_item, hint_of_name, hint_of_number, hint_of_value, is_short,
-    members_of,
+    Member, coord_named, hint_at_item, hint_at_name, hint_of_name, hint_of_number, hint_of_value,
+    is_short, members_of,
 };
 use crate::hints::qualifiers::{meaning, name_of};
 use crate::hints::text::{number_text, text_of};
@@ -149,14 +149,7 @@ fn hint_of_ends(alloc: Global, coord: Coord, range: &Value) -> Option<String> {
             return hint_of_end(alloc, coord, *end, value);
         }
     }
-    text_of(
-        alloc,
-        &[
-            "a range at \"",
-            name_of(coord),
-            "\" has from and to, and nothing else",
-        ],
-    )
+    hint_of_more(alloc, coord.name())
 }
 
 fn hint_of_end(alloc: Global, coord: Coord, end: &str, value: &Value) -> Option<String> {
@@ -164,19 +157,26 @@ fn hint_of_end(alloc: Global, coord: Coord, end: &str, value: &Value) -> Option<
     text_of(alloc, &[end, ": ", hint.as_str()])
 }
 
+// A range with other members too.
+fn hint_of_more(alloc: Global, name: &str) -> Option<String> {
+    text_of(
+        alloc,
+        &[
+            "a range at \"",
+            name,
+            "\" has from and to, and nothing else",
+        ],
+    )
+}
+
 // What is neither a list nor a range.
 fn hint_of_other(alloc: Global, coord: Coord, value: &Value) -> Option<String> {
     match value.as_u64() {
         Some(number) => hint_of_single(alloc, coord, number),
-        None => text_of(
-            alloc,
-            &[
-                "\"",
-                name_of(coord),
-                "\" takes a list or a range, {\"from\":1,\"to\":2}: ",
-                meaning(coord),
-            ],
-        ),
+        None => {
+            let takes = "\" takes a list or a range, {\"from\":1,\"to\":2}: ";
+            hint_at_name(alloc, coord.name(), takes, meaning(coord))
+        }
     }
 }
 

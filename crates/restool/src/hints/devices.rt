@@ -2,9 +2,8 @@
 
 use crate::hints::locale_texts::hint_of_locale;
 use crate::hints::members::{
-    Member, coord_named, hint_of_name, hint_of_number, hint_of_value, members_of,
+    Member, coord_named, hint_at_name, hint_of_name, hint_of_number, hint_of_value, members_of,
 };
-use crate::hints::qualifiers::name_of;
 use crate::hints::text::text_of;
 use command_base::{Coord, DeviceFault, LocaleRule, ToolFault};
 use config_words::read_config_by;
@@ -59,14 +58,8 @@ pub(crate) fn is_fit(coord: Coord, value: &Value) -> bool {
 
 fn hint_of_unfit(alloc: Global, coord: Coord, value: &Value) -> Option<String> {
     if value.is_array() || value.is_object() {
-        return text_of(
-            alloc,
-            &[
-                "\"",
-                name_of(coord),
-                "\" has one value in a device; lists and ranges are for boxes",
-            ],
-        );
+        let has = "\" has one value in a device; lists and ranges are for boxes";
+        return hint_at_name(alloc, coord.name(), has, "");
     }
     match coord {
         Coord::Locale => text_of(alloc, &["\"locale\" takes a text, as \"es-MX\""]),
@@ -89,7 +82,9 @@ pub(crate) fn hint_of_part(alloc: Global, rule: LocaleRule, part: &[u8]) -> Opti
     let LocaleRule::LanguageAndRegion = rule else {
         return None;
     };
-    let part = str::from_utf8(part).ok()?;
+    let Ok(part) = str::from_utf8(part) else {
+        return None;
+    };
     // A device has a density.
     let line = text_of(alloc, &[part, "-mdpi"])?;
     if is_for_android(line.as_str()) {

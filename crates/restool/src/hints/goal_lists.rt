@@ -123,7 +123,9 @@ fn read_texts<I: Inputs>(
     texts: &mut GoalTexts,
 ) -> Option<()> {
     let files = LayerFiles::read(alloc, inputs, check.layers).ok()?;
-    let layers = files.layers(alloc).ok()?;
+    let Ok(layers) = files.layers(alloc) else {
+        return None;
+    };
     push_over_layers(alloc, inputs, check, &layers, texts)
 }
 
@@ -134,8 +136,12 @@ fn push_over_layers<I: Inputs>(
     layers: &[LayerParts<&[u8]>],
     texts: &mut GoalTexts,
 ) -> Option<()> {
-    let stack = open_stack(alloc, layers).ok()?;
-    let names = StackNames::of(alloc, &stack).ok()?;
+    let Ok(stack) = open_stack(alloc, layers) else {
+        return None;
+    };
+    let Ok(names) = StackNames::of(alloc, &stack) else {
+        return None;
+    };
     push_by_names(alloc, inputs, check, &names, texts)
 }
 
@@ -192,7 +198,9 @@ fn push_certified<I: Inputs>(
     texts: &mut Vec<String>,
 ) -> Option<()> {
     let json = inputs.read_again(check.certificate)?;
-    let certificate = Cert::read_by(alloc, &json, check.locales).ok()?;
+    let Ok(certificate) = Cert::read_by(alloc, &json, check.locales) else {
+        return None;
+    };
     push_goals_of(alloc, names, &certificate.goals, texts)
 }
 

@@ -33,14 +33,10 @@ impl<I: Inputs> Asked<'_, '_, I> {
     /// From which list a path is that was not read, and where it begins.
     pub(crate) fn hint_of_unread(&self, path: &str) -> Option<String> {
         let list = self.list_with(path)?;
-        let folder = self.inputs.folder();
-        let folder = match &folder {
-            Some(folder) => folder.as_str(),
-            None => "the folder where restool runs",
-        };
-        match self.beside(list, path) {
-            Some(there) => hint_of_place(self.alloc, list, folder, ": write ", there.as_str()),
-            None => hint_of_place(self.alloc, list, folder, "", ""),
+        let there = self.beside(list, path);
+        match self.inputs.folder() {
+            Some(folder) => hint_of_place(self.alloc, list, folder.as_str(), there),
+            None => hint_of_place(self.alloc, list, "the folder where restool runs", there),
         }
     }
 
@@ -67,27 +63,26 @@ impl<I: Inputs> Asked<'_, '_, I> {
 }
 
 // Where the paths of a list begin, and what to write in place of one.
-fn hint_of_place(
-    alloc: Global,
-    list: &str,
-    folder: &str,
-    write: &str,
-    there: &str,
-) -> Option<String> {
-    text_of(
-        alloc,
-        &[
-            list,
-            " names it, where paths begin in ",
-            folder,
-            write,
-            there,
-        ],
-    )
+fn hint_of_place(alloc: Global, list: &str, folder: &str, there: Option<String>) -> Option<String> {
+    match there {
+        Some(there) => text_of(
+            alloc,
+            &[
+                list,
+                " names it, where paths begin in ",
+                folder,
+                ": write ",
+                there.as_str(),
+            ],
+        ),
+        None => text_of(alloc, &[list, " names it, where paths begin in ", folder]),
+    }
 }
 
 fn paths_in_word(alloc: Global, word: &str) -> Option<Vec<LayerParts<String>>> {
-    let layers = layers_in_word(alloc, word).ok()?;
+    let Ok(layers) = layers_in_word(alloc, word) else {
+        return None;
+    };
     let mut paths = Vec::new(alloc);
     push_paths(alloc, &layers, &mut paths)?;
     Some(paths)

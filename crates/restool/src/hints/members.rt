@@ -70,15 +70,8 @@ pub(crate) fn hint_of_name(alloc: Global, name: &str) -> Option<String> {
 /// A value that is no number, at a qualifier that takes one.
 pub(crate) fn hint_of_value(alloc: Global, coord: Coord, value: &Value) -> Option<String> {
     let Some(word) = value.as_str() else {
-        return text_of(
-            alloc,
-            &[
-                "\"",
-                name_of(coord),
-                "\" takes a whole number: ",
-                meaning(coord),
-            ],
-        );
+        let takes = "\" takes a whole number: ";
+        return hint_at_name(alloc, coord.name(), takes, meaning(coord));
     };
     if !is_short(word) {
         return None;
@@ -93,10 +86,10 @@ fn hint_of_word(alloc: Global, coord: Coord, word: &str) -> Option<String> {
     }
     match word.parse::<u32>() {
         Ok(number) => hint_of_quotes(alloc, coord, u64::from(number)),
-        Err(_) => text_of(
-            alloc,
-            &["\"", name_of(coord), "\" takes a number: ", meaning(coord)],
-        ),
+        Err(_) => {
+            let takes = "\" takes a number: ";
+            hint_at_name(alloc, coord.name(), takes, meaning(coord))
+        }
     }
 }
 
@@ -133,6 +126,11 @@ pub(crate) fn hint_of_number(alloc: Global, coord: Coord, number: u64) -> Option
             meaning(coord),
         ],
     )
+}
+
+/// What is said behind a name, and what the numbers there mean.
+pub(crate) fn hint_at_name(alloc: Global, name: &str, said: &str, means: &str) -> Option<String> {
+    text_of(alloc, &["\"", name, said, means])
 }
 
 /// What is said of an item of a list, behind its place.

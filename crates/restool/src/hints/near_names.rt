@@ -5,7 +5,7 @@ use crate::hints::again::Again;
 use crate::hints::members::is_short;
 use crate::hints::nearest::Nearest;
 use crate::hints::text::text_of;
-use command_base::{Inputs, Side};
+use command_base::{Inputs, Side, Status};
 use std::alloc::Global;
 use std::str;
 use table_commands::Ids;
@@ -124,18 +124,18 @@ impl<I: Inputs> Asked<'_, '_, I> {
             return None;
         }
         let mut printed = Vec::new(self.alloc);
-        self.print_all_ids(&mut printed)?;
+        let _status = self.print_all_ids(&mut printed)?;
         hint_of_near(self.alloc, wanted, &printed)
     }
 
     // Prints the ids of all base layers.
-    fn print_all_ids(&self, printed: &mut Vec<u8>) -> Option<()> {
+    fn print_all_ids(&self, printed: &mut Vec<u8>) -> Option<Status> {
         let again = self.again();
         let old = self.request.layers(Side::Old)?;
-        print_ids(self.alloc, &again, old, printed)?;
+        let status = print_ids(self.alloc, &again, old, printed)?;
         let new = self.request.layers(Side::New)?;
         if new == old {
-            return Some(());
+            return Some(status);
         }
         print_ids(self.alloc, &again, new, printed)
     }
@@ -143,7 +143,10 @@ impl<I: Inputs> Asked<'_, '_, I> {
 
 fn hint_of_near(alloc: Global, wanted: Parts<'_>, printed: &[u8]) -> Option<String> {
     let mut near = NearNames::to(wanted);
-    offer_lines(alloc, str::from_utf8(printed).ok()?, &mut near);
+    let Ok(text) = str::from_utf8(printed) else {
+        return None;
+    };
+    offer_lines(alloc, text, &mut near);
     hint_of_found(alloc, wanted, near.found()?)
 }
 
@@ -192,7 +195,10 @@ pub(crate) fn hint_of_bare<I: Inputs>(
 
 fn hint_of_entry(alloc: Global, printed: &[u8], word: &str) -> Option<String> {
     let mut nearest = Nearest::new(word);
-    offer_entries(alloc, str::from_utf8(printed).ok()?, &mut nearest);
+    let Ok(text) = str::from_utf8(printed) else {
+        return None;
+    };
+    offer_entries(alloc, text, &mut nearest);
     let behind = "a name has its type before it: did you mean ";
     text_of(alloc, &[behind, nearest.found?, "?"])
 }
@@ -217,9 +223,8 @@ fn print_ids<I: Inputs>(
     inputs: &Again<'_, I>,
     layers: &str,
     printed: &mut Vec<u8>,
-) -> Option<()> {
-    let _status = Ids { layers }.answer(alloc, inputs, printed).ok()?;
-    Some(())
+) -> Option<Status> {
+    Ids { layers }.answer(alloc, inputs, printed).ok()
 }
 
 // The id and the name in a line of `restool ids`, where that is a word that asks for it.

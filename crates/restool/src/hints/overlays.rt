@@ -33,9 +33,13 @@ impl<I: Inputs> Asked<'_, '_, I> {
 }
 
 fn hint_of_files(alloc: Global, word: &str, files: &LayerFiles) -> Option<String> {
-    let layers = files.layers(alloc).ok()?;
+    let Ok(layers) = files.layers(alloc) else {
+        return None;
+    };
     let place = place_of_nothing(&layers)?;
-    let listed = layers_in_word(alloc, word).ok()?;
+    let Ok(listed) = layers_in_word(alloc, word) else {
+        return None;
+    };
     hint_of_nothing(alloc, &listed, place)
 }
 

@@ -15,5 +15,8 @@ pub(crate) fn number_text(alloc: Global, number: u64) -> Option<String> {
 
 /// The first line of a text.
 pub(crate) fn first_line(bytes: &[u8]) -> Option<&str> {
-    str::from_utf8(bytes).ok()?.lines().next()
+    match str::from_utf8(bytes) {
+        Ok(text) => text.lines().next(),
+        Err(_) => None,
+    }
 }

@@ -136,8 +136,10 @@ fn name_file(words: &[&str], path: &str) -> bool {
 
 // A file and the number of its line that is a word.
 fn line_with(alloc: Global, path: &str, bytes: &[u8], word: &str) -> Option<String> {
-    let number = number_of_line(str::from_utf8(bytes).ok()?, word)?;
-    let number = number_text(alloc, number)?;
+    let Ok(text) = str::from_utf8(bytes) else {
+        return None;
+    };
+    let number = number_text(alloc, number_of_line(text, word)?)?;
     text_of(alloc, &[path, ", line ", number.as_str()])
 }
 
