@@ -8,7 +8,7 @@ use Rattle.std.specs.declared.cmp.Ordering.{Ordering}
 use Rattle.std.specs.declared.cmp.Ordering.TheVariants.{Less, Equal, Greater}
 use Rattle.std.proofs.lemmas.Bool.{cases_Bool}
 use Rattle.std.proofs.lemmas.Map.Lookups.{exact_pairs, exact_unsigned}
-use Rattle.notation.specs.declared.form.Form.{Form}
+use Rattle.change_text.specs.declared.line_form.LineForm.{LineForm}
 use Rattle.stack_diff.specs.config_box.box_answers.NumberSet.{SetOf}
 use Rattle.stack_diff.specs.names.declared.pair.Sides.{Sides}
 use Rattle.stack_diff.specs.names.declared.pair.Sides.TheVariants.{Both}
@@ -34,7 +34,7 @@ tied Greater e = absurd cc
 one-id : (ids others : ℕ × ℕ) → is_at (ids_cmp ids) others ≡ true → ids ≡ others
 one-id ids others is = exact_pairs nat_cmp nat_cmp exact_unsigned exact_unsigned ids others (tied (ids_cmp ids others) is)
 
-module _ (form : Form) (stacks : StacksOf) (sets : List SetOf) where
+module _ (form : LineForm) (stacks : StacksOf) (sets : List SetOf) where
   -- at first nothing is
   pub kept-none : (kept : Kept) → IsEmpty kept → IsKept form stacks sets kept
   kept-none kept none ids judged found = (let empty : None ≡ Some judged = sym (ap (λ (entries : List ((ℕ × ℕ) × Judged)). lookup (is_at (ids_cmp ids)) entries) none) ∙ found in absurd cc)

@@ -8,7 +8,7 @@ use Rattle.command_base.specs.declared.fault.ToolFault.{ToolFault}
 use Rattle.command_base.specs.declared.fault.ToolFault.TheVariants.{OutOfMemory, Write}
 use Rattle.command_base.specs.declared.status.Status.{Status}
 use Rattle.answer_text.specs.ContentAt.{content_at}
-use Rattle.notation.specs.declared.form.Form.{Form}
+use Rattle.change_text.specs.declared.line_form.LineForm.{LineForm}
 use Rattle.stack_diff.specs.cert_maker.res_value.declared.res_id.ResId.{ResId}
 use Rattle.stack_diff.specs.config_box.box_answers.NumberSet.{SetOf}
 use Rattle.stack_diff.specs.config_box.config_record.locales.declared.locale_rule.LocaleRule.{LocaleRule}
@@ -26,7 +26,7 @@ use Rattle.diff_command.specs.AskedPairs.{AreOfStacks}
 use Rattle.diff_command.specs.Telling.{ToldOf, changes_told, IsTold, AreTold}
 use Rattle.diff_command.specs.ValuesOutput.{IsValued, AreValued, values_output, IsValuesOutput}
 
-module _ (form : Form) (layers : List LayerOf) (packages : List PackageNameOf) (sets : List SetOf) where
+module _ (form : LineForm) (layers : List LayerOf) (packages : List PackageNameOf) (sets : List SetOf) where
   abbrev Beside : StacksOf
   Beside = beside_nothing layers packages
 
@@ -68,16 +68,16 @@ asked-keep P packages (set ∷ sets) pairs asked all found =
 
 -- ---- what is printed
 
-module _ {W : Type 0} (contents : W → Option (List ℕ)) (old new : W) (form : Form) (rule : LocaleRule) (sets : List SetOf) (pairs : List PairOf) (most : ℕ) (told : Option (List ToldOf)) where
+module _ {W : Type 0} (contents : W → Option (List ℕ)) (old new : W) (form : LineForm) (rule : LocaleRule) (sets : List SetOf) (pairs : List PairOf) (most : ℕ) (told : Option (List ToldOf)) where
   abbrev pub Printed : StacksOf → Result Status ToolFault → Type 0
-  Printed stacks result = Prints contents old new result (Ok (values_output rule stacks pairs told))
+  Printed stacks result = Prints contents old new result (Ok (values_output form rule stacks pairs told))
 
   abbrev OneOf : StacksOf → Result Status ToolFault → Type 0
   OneOf stacks result = PrintsOneOf (IsValuesOutput form pairs most) contents old new result (Ok (record { stacks = stacks; sets = sets; rule = rule }))
 
   pub printed-values : (stacks : StacksOf) (result : Result Status ToolFault) → AreValued form stacks sets pairs most told → Printed stacks result → OneOf stacks result
   printed-values stacks (Ok status) right printed =
-      let same : values_output rule stacks pairs told ≡ record { status = status; text = printed.0 } = cc in
+      let same : values_output form rule stacks pairs told ≡ record { status = status; text = printed.0 } = cc in
       (record { stacks = stacks; sets = sets; rule = rule }, printed.0, refl, record { told = told; right = right; printed = sym same }, printed.2)
   printed-values stacks (Err OutOfMemory) right printed = printed
   printed-values stacks (Err Write) right printed = refl

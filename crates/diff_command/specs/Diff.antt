@@ -16,7 +16,7 @@ use Rattle.command_base.specs.Output.{PrintsOneOf}
 use Rattle.command_base.specs.StackBytes.{LayerBytes}
 use Rattle.command_base.specs.Stop.{StopOf}
 use Rattle.command_base.specs.names.NamedPairs.{pairs_named}
-use Rattle.notation.specs.declared.form.Form.{Form}
+use Rattle.change_text.specs.declared.line_form.LineForm.{LineForm}
 use Rattle.stack_diff.specs.config_box.config_record.locales.declared.locale_rule.LocaleRule.{LocaleRule}
 use Rattle.stack_diff.specs.names.Pairs.{PairOf, name_pairs}
 use Rattle.diff_command.specs.declared.diff.Diff.{Diff}
@@ -67,7 +67,7 @@ diff_opened rule old new box_json words = opened_asked words (diff_inputs_by rul
 -- ---- the answer
 
 -- from what was opened, if it is
-abbrev pub DiffsOpened : {W : Type 0} → (W → Option (List ℕ)) → W → W → Form → ℕ → Result OpenDiffOf StopOf → Result Status Stop → Type 0
+abbrev pub DiffsOpened : {W : Type 0} → (W → Option (List ℕ)) → W → W → LineForm → ℕ → Result OpenDiffOf StopOf → Result Status Stop → Type 0
 DiffsOpened contents old new form max_nodes opened result =
     CarriesOut (λ diff done. PrintsOneOf (IsDiffOutput form diff.pairs max_nodes) contents old new done (Ok diff.opened)) opened result
 

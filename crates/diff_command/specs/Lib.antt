@@ -12,12 +12,9 @@ pub mod UnusedOutput
 pub mod UnusedTotals
 pub mod Unused
 pub mod NameLines
-pub mod DevicesText
-pub mod ContentText
-pub mod RowsText
-pub mod DifferenceText
-pub mod Unfolded
+pub mod JsonLines
 pub use Rattle.notation.specs as notation
+pub use Rattle.change_text.specs as change_text
 pub use Rattle.stack_diff.specs as stack_diff
 pub use Rattle.stack_diff.specs.config_box
 pub use Rattle.stack_diff.specs.names

@@ -16,7 +16,7 @@ use Rattle.command_base.specs.StackBytes.{LayerBytes, stack_in}
 use Rattle.command_base.specs.Stop.{StopOf}
 use Rattle.command_base.specs.ToolFault.{fault_of_box}
 use Rattle.command_base.specs.overlay_map.Layer.{LayerOf}
-use Rattle.notation.specs.declared.form.Form.{Form}
+use Rattle.change_text.specs.declared.line_form.LineForm.{LineForm}
 use Rattle.stack_diff.specs.config_box.BoxJson.{box_in_by}
 use Rattle.stack_diff.specs.config_box.config_record.locales.declared.locale_rule.LocaleRule.{LocaleRule}
 use Rattle.stack_diff.specs.names.NamedIds.{packages_of}
@@ -69,7 +69,7 @@ values_opened rule layers box_json words = opened_asked words (values_inputs_by 
 -- ---- the answer
 
 -- from what was opened, if it is
-abbrev pub ValuesOpened : {W : Type 0} → (W → Option (List ℕ)) → W → W → Form → ℕ → Result OpenDiffOf StopOf → Result Status Stop → Type 0
+abbrev pub ValuesOpened : {W : Type 0} → (W → Option (List ℕ)) → W → W → LineForm → ℕ → Result OpenDiffOf StopOf → Result Status Stop → Type 0
 ValuesOpened contents old new form max_nodes opened result =
     CarriesOut (λ asked done. PrintsOneOf (IsValuesOutput form asked.pairs max_nodes) contents old new done (Ok asked.opened)) opened result
 

@@ -6,7 +6,8 @@ use Rattle.command_base.specs.Output.{Output}
 use Rattle.command_base.specs.SetAside.{rows_set_aside}
 use Rattle.command_base.specs.declared.status.Status.TheVariants.{Done, Negative}
 use Rattle.answer_text.specs.ContentAt.{content_at}
-use Rattle.notation.specs.declared.form.Form.{Form}
+use Rattle.change_text.specs.declared.line_form.LineForm.{LineForm}
+use Rattle.change_text.specs.declared.line_form.LineForm.TheVariants.{Text, Json}
 use Rattle.stack_diff.specs.cert_maker.res_value.declared.res_id.ResId.{ResId}
 use Rattle.stack_diff.specs.config_box.box_answers.NumberSet.{SetOf}
 use Rattle.stack_diff.specs.config_box.config_record.locales.declared.locale_rule.LocaleRule.{LocaleRule}
@@ -17,13 +18,15 @@ use Rattle.stack_diff.specs.Stacks.{StacksOf}
 use Rattle.stack_diff.specs.Values.{SaidOf, change_of_said, AreValues}
 use Rattle.diff_command.specs.DiffInputs.{DiffInputs}
 use Rattle.diff_command.specs.DiffLines.{label_lines}
+use Rattle.diff_command.specs.DiffOutput.{node_limit_line}
+use Rattle.diff_command.specs.JsonLines.{values_json}
 use Rattle.diff_command.specs.Telling.{ToldOf, changes_told, HaveTrees}
 
 -- ---- what is told
 
 -- All that the resource says is told for which its label stands in the stack: on each device of the box in one block of lines, and
 -- in one alone.
-pub record IsValued (form : Form) (stacks : StacksOf) (sets : List SetOf) (pair : PairOf) (told : ToldOf) : Type 0 where
+pub record IsValued (form : LineForm) (stacks : StacksOf) (sets : List SetOf) (pair : PairOf) (told : ToldOf) : Type 0 where
   pub id : ResId
   pub called : id_of stacks.new pair.label ≡ Some id
   pub values : List SaidOf
@@ -31,7 +34,7 @@ pub record IsValued (form : Form) (stacks : StacksOf) (sets : List SetOf) (pair 
   pub in_blocks : told ≡ changes_told form stacks.packages sets (map change_of_said values)
 
 -- so it is of each label, with trees within the limit; or there are such trees above it
-abbrev pub AreValued : Form → StacksOf → List SetOf → List PairOf → ℕ → Option (List ToldOf) → Type 0
+abbrev pub AreValued : LineForm → StacksOf → List SetOf → List PairOf → ℕ → Option (List ToldOf) → Type 0
 AreValued form stacks sets pairs most (Some told) = AllZip (IsValued form stacks sets) pairs told × HaveTrees stacks sets pairs (λ nodes. nodes ≤ most)
 AreValued form stacks sets pairs most None = HaveTrees stacks sets pairs (λ nodes. most < nodes)
 
@@ -51,14 +54,18 @@ values_lines rule stacks pairs told =
     label_lines [] stacks.packages pairs told ++ count_line (codes "warning shared-names") (length (shared_ids stacks.new))
     ++ count_line (codes "set-aside") (rows_set_aside rule stacks.new) ++ resources_line (length pairs)
 
+unfoldable pub lines_of_values : LineForm → LocaleRule → StacksOf → List PairOf → List ToldOf → List ℕ
+lines_of_values (Text form) rule stacks pairs told = values_lines rule stacks pairs told
+lines_of_values Json rule stacks pairs told = values_json rule stacks pairs told
+
 -- it is done; or the line `node limit`
-abbrev pub values_output : LocaleRule → StacksOf → List PairOf → Option (List ToldOf) → Output
-values_output rule stacks pairs (Some told) = record { status = Done; text = values_lines rule stacks pairs told }
-values_output rule stacks pairs None = record { status = Negative; text = codes "node limit" ++ 10 ∷ [] }
+abbrev pub values_output : LineForm → LocaleRule → StacksOf → List PairOf → Option (List ToldOf) → Output
+values_output form rule stacks pairs (Some told) = record { status = Done; text = lines_of_values form rule stacks pairs told }
+values_output form rule stacks pairs None = record { status = Negative; text = node_limit_line form }
 
 -- What is printed of some labels in a form tells all that their resources say, on which devices of the box; or trees for them have
 -- more nodes than the limit.
-pub record IsValuesOutput (form : Form) (pairs : List PairOf) (most : ℕ) (inputs : DiffInputs) (output : Output) : Type 0 where
+pub record IsValuesOutput (form : LineForm) (pairs : List PairOf) (most : ℕ) (inputs : DiffInputs) (output : Output) : Type 0 where
   pub told : Option (List ToldOf)
   pub right : AreValued form inputs.stacks inputs.sets pairs most told
-  pub printed : output ≡ values_output inputs.rule inputs.stacks pairs told
+  pub printed : output ≡ values_output form inputs.rule inputs.stacks pairs told

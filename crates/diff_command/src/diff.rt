@@ -14,11 +14,12 @@ ghost use Rattle.diff_command.specs.OpenedSeen.{named_diff};
 ghost use Rattle.command_base.specs.CarriesOut.{IsKept};
 
 use crate::asked_pairs::asked_pairs;
+use crate::json_lines::{names_json, write_diff_json};
 use crate::judged::tell_all;
-use crate::lines::{some_differ, write_lines};
+use crate::lines::{node_limit_line, some_differ, write_lines};
 use crate::opened::{NamedDiff, OpenedDiff};
 use crate::told::Told;
-use answer_text::Form;
+use change_text::LineForm;
 use command_base::{
     Inputs, LayerFiles, LayerParts, LocaleRule, NamedSet, Progress, Side, Status, Stop, ToolFault,
     asked_sets, asked_words, file_bytes,
@@ -39,7 +40,7 @@ pub struct Diff<'a> {
     /// By which rule locales are compared.
     pub locales: LocaleRule,
     /// How it is written.
-    pub form: Form,
+    pub form: LineForm,
     /// How many nodes the trees that part the devices have together at most.
     pub max_nodes: u32,
     /// The words that ask for resources, or name a file of such words.
@@ -183,7 +184,7 @@ impl<'o, 'a> NamedDiff<'o, 'a> {
     pub fn diff<P: Progress, W: Write + Drop>(
         &self,
         alloc: Global,
-        form: Form,
+        form: LineForm,
         pairs: &[NamePair<'a>],
         max_nodes: u32,
         progress: &mut P,
@@ -201,23 +202,33 @@ impl<'o, 'a> NamedDiff<'o, 'a> {
             max_nodes,
             progress,
         )?;
-        print_told(self.rule, stacks, pairs, told, out)
+        print_told(alloc, form, self.rule, stacks, pairs, told, out)
     }
 }
 
+// All memory is taken before the first line is written.
+#[tactic(auto, unfolding(crate::specs::DiffOutput::lines_of_told))]
 fn print_told<W: Write + Drop>(
+    alloc: Global,
+    form: LineForm,
     rule: LocaleRule,
     stacks: Stacks<'_, '_>,
     pairs: &[NamePair<'_>],
     told: Option<Vec<Told>>,
     out: &mut W,
 ) -> Result<Status, ToolFault>
-    ensures { Prints W.contents out.old out.new result (Ok (told_output rule (stacks_of stacks.entry) (map pair_of pairs.now) (option_map (λ all. map told_of all.items) told))) }
+    ensures { Prints W.contents out.old out.new result (Ok (told_output form rule (stacks_of stacks.entry) (map pair_of pairs.now) (option_map (λ all. map told_of all.items) told))) }
 {
     let Some(told) = told else {
-        out.write_all(b"node limit\n")?;
+        out.write_all(node_limit_line(form))?;
         return Ok(Status::Negative);
     };
-    write_lines(rule, stacks, pairs, &told, out)?;
+    match form {
+        LineForm::Text(_) => write_lines(rule, stacks, pairs, &told, out)?,
+        LineForm::Json => {
+            let names = names_json(alloc, stacks.packages(), pairs)?;
+            write_diff_json(rule, stacks, pairs, &names, &told, out)?;
+        }
+    }
     Ok(Status::negative_if(some_differ(&told)))
 }

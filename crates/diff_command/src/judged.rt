@@ -8,7 +8,7 @@ ghost use Rattle.diff_command.specs.Judged.{told_of, IsJudged, IsKept};
 ghost use Rattle.diff_command.specs.Telling.{AreTold};
 
 use crate::told::Told;
-use answer_text::Form;
+use change_text::LineForm;
 use command_base::Progress;
 use stack_diff::{ConfigBox, NamePair, ResId, Sides, Stacks, compare};
 use std::alloc::{AllocError, Global};
@@ -26,7 +26,7 @@ struct Judged {
 /// caller comes to know how many are told.
 pub(crate) fn tell_all<'a, P: Progress>(
     alloc: Global,
-    form: Form,
+    form: LineForm,
     stacks: Stacks<'_, 'a>,
     pairs: &[NamePair<'a>],
     members: &ConfigBox,
@@ -53,7 +53,7 @@ pub(crate) fn tell_all<'a, P: Progress>(
 // found of two ids is kept.
 fn judge<'a>(
     alloc: Global,
-    form: Form,
+    form: LineForm,
     stacks: Stacks<'_, 'a>,
     sides: Sides,
     members: &ConfigBox,
@@ -83,7 +83,7 @@ fn judge<'a>(
 // The same of two ids, by a comparison.
 fn judge_both<'a>(
     alloc: Global,
-    form: Form,
+    form: LineForm,
     stacks: Stacks<'_, 'a>,
     old: ResId,
     new: ResId,
@@ -102,7 +102,7 @@ fn judge_both<'a>(
 
 impl Judged {
     ghost use Rattle.std.specs.Prelude.{◌≡◌, IfOk};
-    ghost use Rattle.notation.specs.declared.form.Form.{Form};
+    ghost use Rattle.change_text.specs.declared.line_form.LineForm.{LineForm};
     ghost use Rattle.stack_diff.specs.Stacks.{StacksOf};
     ghost use Rattle.stack_diff.specs.names.declared.pair.Sides.{Sides};
     ghost use Rattle.stack_diff.specs.config_box.box_answers.NumberSet.{SetOf};
@@ -130,7 +130,7 @@ impl Judged {
 
     // The same, if its tree is within this limit.
     fn within(&self, most: usize) -> Result<Option<Judged>, AllocError>
-        ensures { IfOk result (λ judged. (form : Form) (stacks : StacksOf) (sets : List SetOf) (sides : Sides) → IsRight form stacks sets sides self.now → IsJudged form stacks sets sides most judged) }
+        ensures { IfOk result (λ judged. (form : LineForm) (stacks : StacksOf) (sets : List SetOf) (sides : Sides) → IsRight form stacks sets sides self.now → IsJudged form stacks sets sides most judged) }
     {
         if self.nodes > most {
             return Ok(None);

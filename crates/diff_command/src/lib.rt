@@ -7,7 +7,7 @@
 //!
 //! ```text
 //! let words = vec![in alloc; "dimen/*"]?;
-//! let diff = Diff { old: "old.json", new: "new.json", box_path: "box.json", locales: LocaleRule::Android, form: Form::Android, max_nodes: 100_000, words };
+//! let diff = Diff { old: "old.json", new: "new.json", box_path: "box.json", locales: LocaleRule::Android, form: LineForm::Text(Form::Android), max_nodes: 100_000, words };
 //! diff.answer(alloc, &inputs, &mut Unwatched, &mut out)?; // reads the files first
 //!
 //! changed string/cancel "Cancel" -> "Cancel!" on de-rAT,de-rCH
@@ -24,7 +24,7 @@
 //! `Values::answer` does the same of one stack. Each device of the box is in one line of a resource, and in one alone.
 //!
 //! ```text
-//! let values = Values { layers: "layers.json", box_path: "box.json", locales: LocaleRule::Android, form: Form::Android, max_nodes: 100_000, words };
+//! let values = Values { layers: "layers.json", box_path: "box.json", locales: LocaleRule::Android, form: LineForm::Text(Form::Android), max_nodes: 100_000, words };
 //! values.answer(alloc, &inputs, &mut Unwatched, &mut out)?;
 //!
 //! string/cancel "Abbrechen" on de-rAT,de-rCH
@@ -47,24 +47,20 @@
 #![tactic(auto)]
 
 mod asked_pairs;
-mod content_text;
-mod devices_text;
 mod diff;
-mod difference_text;
+mod json_lines;
 mod judged;
 mod lines;
 mod opened;
-mod rows_text;
 mod told;
 mod unused;
 mod unused_rows;
 mod value_lines;
 mod values;
 
-pub use answer_text::Form;
+pub use change_text::LineForm;
 pub use command_base::{LayerParts, Status, ToolFault};
 pub use diff::Diff;
-pub use difference_text::write_difference;
 pub use opened::{NamedDiff, OpenedDiff};
 pub use stack_diff::{ConfigBox, Label, NamePair, NamedStack, Sides};
 pub use unused::Unused;

@@ -9,9 +9,11 @@ ghost use Rattle.stack_diff.specs.names.Shared.{shared_ids};
 ghost use Rattle.stack_diff.specs.Stacks.{stacks_of};
 ghost use Rattle.diff_command.specs.Judged.{told_of};
 ghost use Rattle.diff_command.specs.NameLines.{same_line};
+ghost use Rattle.diff_command.specs.DiffOutput.{node_limit_line};
 ghost use Rattle.diff_command.specs.DiffLines.{block_lines, told_lines, label_lines, says_same, same_count, some_differ, counts_line, shared_names_line, set_aside_line, diff_lines};
 
 use crate::told::Told;
+use change_text::LineForm;
 use command_base::{LocaleRule, rows_set_aside};
 use stack_diff::{Label, NamePair, NamedStack, PackageNames, Stacks};
 use std::io::{self, Write};
@@ -149,8 +151,8 @@ fn write_counts<W: Write + Drop>(words: &[u8], old: u128, new: u128, out: &mut W
 
 // ---- labels that say the same
 
-// How many there are.
-fn same_count(told: &[Told]) -> usize
+/// How many there are.
+pub(crate) fn same_count(told: &[Told]) -> usize
     ensures { result ≡ same_count (map told_of told.now) }
 {
     let mut count: usize = 0;
@@ -181,4 +183,16 @@ fn says_same(told: &Told) -> bool
     ensures { result ≡ says_same (told_of told.now) }
 {
     matches!(told, Told::Same)
+}
+
+// ---- the limit
+
+/// The line in place of all, where trees have more nodes than the limit.
+pub(crate) fn node_limit_line(form: LineForm) -> &'static [u8]
+    ensures { result.now ≡ node_limit_line form }
+{
+    match form {
+        LineForm::Text(_) => b"node limit\n",
+        LineForm::Json => b"{\"line\":\"node limit\"}\n",
+    }
 }

@@ -16,10 +16,12 @@ ghost use Rattle.diff_command.specs.Values.{TellsValues, TellsValuesOf, ValuesOp
 ghost use Rattle.diff_command.specs.ValuesOutput.{values_output, IsValuesOutput};
 
 use crate::asked_pairs::asked_pairs;
+use crate::json_lines::{names_json, write_values_json};
 use crate::judged::tell_all;
+use crate::lines::node_limit_line;
 use crate::told::Told;
 use crate::value_lines::write_value_lines;
-use answer_text::Form;
+use change_text::LineForm;
 use command_base::{
     Inputs, LayerFiles, LocaleRule, NamedSet, Progress, Status, Stop, ToolFault, asked_sets,
     asked_words, file_bytes, open_stack,
@@ -38,7 +40,7 @@ pub struct Values<'a> {
     /// By which rule locales are compared.
     pub locales: LocaleRule,
     /// How it is written.
-    pub form: Form,
+    pub form: LineForm,
     /// How many nodes the trees that part the devices have together at most.
     pub max_nodes: u32,
     /// The words that ask for resources, or name a file of such words.
@@ -193,7 +195,7 @@ impl<'a> OpenedValues<'a> {
     fn values<P: Progress, W: Write + Drop>(
         &self,
         alloc: Global,
-        form: Form,
+        form: LineForm,
         stacks: Stacks<'_, 'a>,
         pairs: &[NamePair<'a>],
         max_nodes: u32,
@@ -213,7 +215,7 @@ impl<'a> OpenedValues<'a> {
             max_nodes,
             progress,
         )?;
-        print_values(self.rule, stacks, pairs, told, out)
+        print_values(alloc, form, self.rule, stacks, pairs, told, out)
     }
 }
 
@@ -224,19 +226,29 @@ fn packages_of<'a>(alloc: Global, stack: &Stack<'a>) -> Result<PackageNames<'a>,
     PackageNames::of(alloc, &tables)
 }
 
+// All memory is taken before the first line is written.
+#[tactic(auto, unfolding(crate::specs::ValuesOutput::lines_of_values))]
 fn print_values<W: Write + Drop>(
+    alloc: Global,
+    form: LineForm,
     rule: LocaleRule,
     stacks: Stacks<'_, '_>,
     pairs: &[NamePair<'_>],
     told: Option<Vec<Told>>,
     out: &mut W,
 ) -> Result<Status, ToolFault>
-    ensures { Prints W.contents out.old out.new result (Ok (values_output rule (stacks_of stacks.entry) (map pair_of pairs.now) (option_map (λ all. map told_of all.items) told))) }
+    ensures { Prints W.contents out.old out.new result (Ok (values_output form rule (stacks_of stacks.entry) (map pair_of pairs.now) (option_map (λ all. map told_of all.items) told))) }
 {
     let Some(told) = told else {
-        out.write_all(b"node limit\n")?;
+        out.write_all(node_limit_line(form))?;
         return Ok(Status::Negative);
     };
-    write_value_lines(rule, stacks, pairs, &told, out)?;
+    match form {
+        LineForm::Text(_) => write_value_lines(rule, stacks, pairs, &told, out)?,
+        LineForm::Json => {
+            let names = names_json(alloc, stacks.packages(), pairs)?;
+            write_values_json(rule, stacks, pairs, &names, &told, out)?;
+        }
+    }
     Ok(Status::Done)
 }

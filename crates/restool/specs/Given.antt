@@ -4,6 +4,8 @@ use Rattle.std.specs.Str.{bytes_eq}
 use Rattle.std.specs.Str.Parse.{IsNumeral, digits_value, without_leading_plus}
 use Rattle.resource_tool.specs.command_base.answer_text.config_record.locales.declared.locale_rule.LocaleRule.{LocaleRule}
 use Rattle.resource_tool.specs.command_base.answer_text.config_record.locales.declared.locale_rule.LocaleRule.TheVariants.{LanguageAndRegion, Android}
+use Rattle.diff_command.specs.change_text.declared.line_form.LineForm.{LineForm}
+use Rattle.diff_command.specs.change_text.declared.line_form.LineForm.TheVariants.{Text, Json}
 use Rattle.diff_command.specs.notation.declared.form.Form.{Form}
 use Rattle.diff_command.specs.notation.declared.form.Form.TheVariants as forms
 use Rattle.clap.specs.Walk.{Row, first_of, one_of, all_of}
@@ -28,6 +30,11 @@ IsGiven name rows false = one_of name rows ≢ Some (codes "true")
 abbrev pub IsFormGiven : List Row → Form → Type 0
 IsFormGiven rows forms.Raw = IsGiven (codes "raw") rows true
 IsFormGiven rows forms.Android = IsGiven (codes "raw") rows false
+
+-- JSON, where the words ask for it, whatever else they ask for
+abbrev pub IsLineFormGiven : List Row → LineForm → Type 0
+IsLineFormGiven rows Json = IsGiven (codes "json") rows true
+IsLineFormGiven rows (Text form) = IsGiven (codes "json") rows false × IsFormGiven rows form
 
 -- The number of nodes that a word spells, or the number for a word that is left out. Nothing is said of a word that
 -- spells no number of nodes that may be asked for: such a word is a fault of the command line, and no request is made.

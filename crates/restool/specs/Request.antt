@@ -19,7 +19,7 @@ use Rattle.restool.specs.declared.request.Command.{Command}
 use Rattle.restool.specs.declared.request.Command.TheVariants.{Rows, Dump, Map, Ids, Survey, Show, Query, Explain, Bag, Attr, Make, Check, Diff, Values, Unused, Device}
 use Rattle.restool.specs.WordsFault.{read_of_words}
 use Rattle.restool.specs.CommandLine.{android, command, device, flag, goal_number, goals, ids, layers, locales, maybe_one_word, maybe_words, names, nodes, one_word, several_words}
-use Rattle.restool.specs.Given.{IsGiven, IsFormGiven, IsGoalNumber, IsNodeLimit, ReadsAlong, ReadsByRule, rule_named, word_at, words_at}
+use Rattle.restool.specs.Given.{IsGiven, IsFormGiven, IsLineFormGiven, IsGoalNumber, IsNodeLimit, ReadsAlong, ReadsByRule, rule_named, word_at, words_at}
 use Rattle.restool.specs.AskedWords.{asked_word, named_word}
 use Rattle.restool.specs.Left.{LayerWordsOf, no_layers, layers as layers_in, both_layers}
 use Rattle.resource_tool.specs.command_base.FileWords.{texts_of}
@@ -70,9 +70,9 @@ commands =
     (locales ∷ nodes (codes "max-nodes") ∷ flag (codes "omit") ∷ names ∷ layers ∷ one_word (codes "BOX") ∷ goals ∷ [])
     ∷ command (codes "check") (locales ∷ names ∷ android ∷ flag (codes "all") ∷ layers ∷ one_word (codes "BOX") ∷ one_word (codes "CERT") ∷ goals ∷ [])
     ∷ command (codes "diff")
-    (locales ∷ flag (codes "raw") ∷ nodes (codes "max-nodes") ∷ one_word (codes "OLD") ∷ one_word (codes "NEW") ∷ one_word (codes "BOX") ∷ maybe_words (codes "NAME") ∷ [])
+    (locales ∷ flag (codes "raw") ∷ flag (codes "json") ∷ nodes (codes "max-nodes") ∷ one_word (codes "OLD") ∷ one_word (codes "NEW") ∷ one_word (codes "BOX") ∷ maybe_words (codes "NAME") ∷ [])
     ∷ command (codes "values")
-    (locales ∷ flag (codes "raw") ∷ nodes (codes "max-nodes") ∷ layers ∷ one_word (codes "BOX") ∷ maybe_words (codes "NAME") ∷ [])
+    (locales ∷ flag (codes "raw") ∷ flag (codes "json") ∷ nodes (codes "max-nodes") ∷ layers ∷ one_word (codes "BOX") ∷ maybe_words (codes "NAME") ∷ [])
     ∷ command (codes "unused")
     (locales ∷ nodes (codes "max-nodes") ∷ layers ∷ one_word (codes "BOX") ∷ maybe_words (codes "NAME") ∷ [])
     ∷ command (codes "device") (locales ∷ flag (codes "config") ∷ device ∷ [])
@@ -212,13 +212,13 @@ IsCheckOf rule rows asked _ = ⊥
 abbrev pub IsDiffOf : LocaleRule → List Row → List (List ℕ) → Request → Type 0
 IsDiffOf rule rows asked (requests.Diff it) =
     (it.locales ≡ rule) × (it.old.now ≡ word_at (codes "OLD") rows) × (it.new.now ≡ word_at (codes "NEW") rows) × (it.box_path.now ≡ word_at (codes "BOX") rows)
-    × IsFormGiven rows it.form × IsNodeLimit (one_of (codes "max-nodes") rows) it.max_nodes × (asked ≡ texts_of it.words)
+    × IsLineFormGiven rows it.form × IsNodeLimit (one_of (codes "max-nodes") rows) it.max_nodes × (asked ≡ texts_of it.words)
 IsDiffOf rule rows asked _ = ⊥
 
 abbrev pub IsValuesOf : LocaleRule → List Row → List (List ℕ) → Request → Type 0
 IsValuesOf rule rows asked (requests.Values it) =
     (it.locales ≡ rule) × (it.layers.now ≡ word_at (codes "LAYERS") rows) × (it.box_path.now ≡ word_at (codes "BOX") rows)
-    × IsFormGiven rows it.form × IsNodeLimit (one_of (codes "max-nodes") rows) it.max_nodes × (asked ≡ texts_of it.words)
+    × IsLineFormGiven rows it.form × IsNodeLimit (one_of (codes "max-nodes") rows) it.max_nodes × (asked ≡ texts_of it.words)
 IsValuesOf rule rows asked _ = ⊥
 
 abbrev pub IsUnusedOf : LocaleRule → List Row → List (List ℕ) → Request → Type 0

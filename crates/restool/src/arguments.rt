@@ -4,14 +4,14 @@ ghost use Rattle.std.specs.Prelude.{◌≡◌, map, codes, option_map};
 ghost use Rattle.clap.specs.Words.{all_of, first_of, found_of, one_of, rows_of};
 ghost use Rattle.json_input.specs.Each.{each};
 ghost use Rattle.restool.specs.AskedWords.{ReadsNamed, ReadsWords, asked_word, named_word};
-ghost use Rattle.restool.specs.Given.{IsFormGiven, IsGiven, IsGoalNumber, IsNodeLimit, ReadsRule, word_at, words_at};
+ghost use Rattle.restool.specs.Given.{IsFormGiven, IsGiven, IsGoalNumber, IsLineFormGiven, IsNodeLimit, ReadsRule, word_at, words_at};
 ghost use Rattle.restool.specs.Request.{locales_at};
 
 use crate::argument_fault::ArgumentFault;
 use crate::asked_words::{Asks, asked_words, named_word};
-use crate::command_line::{Argument, DOT, LOCALES, MAX_NODES, MOST_NODES, NODES_IF_LEFT_OUT, RAW};
+use crate::command_line::{Argument, DOT, JSON, LOCALES, MAX_NODES, MOST_NODES, NODES_IF_LEFT_OUT, RAW};
 use clap::ArgMatches;
-use diff_command::Form;
+use diff_command::{Form, LineForm};
 use resource_tool::{LocaleRule, Named};
 use std::alloc::Global;
 
@@ -87,6 +87,17 @@ pub(crate) fn given_form(given: &ArgMatches<'_>) -> Form
         Form::Raw
     } else {
         Form::Android
+    }
+}
+
+/// How the lines of an answer are written.
+pub(crate) fn given_line_form(given: &ArgMatches<'_>) -> LineForm
+    ensures { IsLineFormGiven (rows_of (found_of given.now)) result }
+{
+    if given_flag(given, &JSON) {
+        LineForm::Json
+    } else {
+        LineForm::Text(given_form(given))
     }
 }
 

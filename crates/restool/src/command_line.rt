@@ -258,6 +258,12 @@ pub(crate) const RAW: Argument = Argument {
     help: "Print each number as a table has it, for other programs, such as dimension 16/2^0 dp",
 };
 
+pub(crate) const JSON: Argument = Argument {
+    name: "json",
+    takes: Takes::Nothing,
+    help: "Print each line as a JSON object, for other programs",
+};
+
 pub(crate) const DOT: Argument = Argument {
     name: "dot",
     takes: Takes::GoalNumber,

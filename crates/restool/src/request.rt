@@ -10,13 +10,13 @@ ghost use Rattle.resource_tool.specs.command_base.CarriesOut.{IsKept};
 
 use crate::argument_fault::ArgumentFault;
 use crate::arguments::{
-    given_asked, given_flag, given_form, given_goal_number, given_maybe_word, given_named,
+    given_asked, given_flag, given_form, given_goal_number, given_line_form, given_maybe_word, given_named,
     given_nodes, given_rule, given_word,
 };
 use crate::asked_words::Asks;
 use crate::command_line::{
     ALL, ALL_GOALS, ATTRIBUTE, BAG_ID, BOX, CERTIFICATE, CONFIG, DEVICE, DOT, GOAL_NAMES, GOALS,
-    ID, IDS, KEEP, LAYERS, LOCALES, MAX_NODES, MAYBE_BOX, MAYBE_NAMES, NAMES, NEW, NOTATION, OLD,
+    ID, IDS, JSON, KEEP, LAYERS, LOCALES, MAX_NODES, MAYBE_BOX, MAYBE_NAMES, NAMES, NEW, NOTATION, OLD,
     OMIT, OVERLAY, PARTING_NODES, RAW, STYLES, TABLE, TARGET, Usage,
 };
 use crate::left::LayerWords;
@@ -159,12 +159,12 @@ pub(crate) const USAGES: &[Usage] = &[
     Usage {
         name: DIFF,
         about: "Prints what a change of layers alters, for every device of a box",
-        arguments: &[LOCALES, RAW, PARTING_NODES, OLD, NEW, BOX, MAYBE_NAMES],
+        arguments: &[LOCALES, RAW, JSON, PARTING_NODES, OLD, NEW, BOX, MAYBE_NAMES],
     },
     Usage {
         name: VALUES,
         about: "Prints what each resource says, on which devices of a box",
-        arguments: &[LOCALES, RAW, PARTING_NODES, LAYERS, BOX, MAYBE_NAMES],
+        arguments: &[LOCALES, RAW, JSON, PARTING_NODES, LAYERS, BOX, MAYBE_NAMES],
     },
     Usage {
         name: UNUSED,
@@ -385,7 +385,7 @@ fn diff_of<'a>(alloc: Global, given: &ArgMatches<'a>) -> Result<Request<'a>, Arg
         new: given_word(given, &NEW),
         box_path: given_word(given, &BOX),
         locales,
-        form: given_form(given),
+        form: given_line_form(given),
         max_nodes: given_nodes(given),
         words: given_asked(alloc, given, &MAYBE_NAMES, Asks::Resources)?,
     }))
@@ -399,7 +399,7 @@ fn values_of<'a>(alloc: Global, given: &ArgMatches<'a>) -> Result<Request<'a>, A
         layers: given_word(given, &LAYERS),
         box_path: given_word(given, &BOX),
         locales,
-        form: given_form(given),
+        form: given_line_form(given),
         max_nodes: given_nodes(given),
         words: given_asked(alloc, given, &MAYBE_NAMES, Asks::Resources)?,
     }))

@@ -1,0 +1,103 @@
+-- No JSON of this crate has a float.
+use Rattle.std.proofs.Common.{◌≡◌, ℕ, Bool, true, false, if◌then◌else◌, List, [], ◌∷◌, map, fold, refl}
+use Rattle.std.proofs.lemmas.Bool.{or_from, or_parts}
+use Rattle.std.specs.Cmp.Lexicographic.{slice_cmp}
+use Rattle.std.specs.Ordering.{nat_cmp, match_ordering}
+use Rattle.std.specs.declared.cmp.Ordering.{Ordering}
+use Rattle.std.specs.declared.cmp.Ordering.TheVariants as order
+use Rattle.serde_json.specs.Data.{Data, Members, no_members, member, put}
+use Rattle.serde_json.specs.View.{items_of}
+use Rattle.serde_json.specs.Written.{has_float, items_have_float, members_have_float}
+use Rattle.config_box.specs.config_record.declared.coord.Coord.{Coord}
+use Rattle.config_box.specs.config_record.Coord.{all_coords, name_of}
+use Rattle.config_box.specs.box_answers.NumberSet.{SetOf, RangeOf, NumbersOf, LocalesOf}
+use Rattle.config_box.specs.box_answers.Members.{set_at}
+use Rattle.notation.specs.Narrower.{is_narrower}
+use Rattle.names.specs.Packages.{PackageNameOf}
+use Rattle.answer_text.specs.Content.{ValueContentOf, StringOf, GarbledOf, BrokenOf, ReferenceOf, AttributeOf, OtherOf, RowKeyOf, PlaceOf, QuantityOf, CalledOf, RowContentOf, ContentOf, ValueOf, BagOf, AbsentOf, TooManyReferencesOf, TooManyParentsOf}
+use Rattle.answer_json.specs.TextJson.{text_data, number_data, list_data}
+use Rattle.answer_json.specs.ContentJson.{value_data, key_data, row_value_data, row_data, content_data}
+use Rattle.answer_json.specs.DevicesJson.{locale_data, set_data, with_narrower, devices_data}
+
+-- ---- lists
+
+pub items-no_float : {X : Type 0} (f : X → Data) → ((x : X) → has_float (f x) ≡ false) → (xs : List X) → items_have_float (items_of (map f xs)) ≡ false
+items-no_float f none [] = refl
+items-no_float f none (x ∷ xs) = or_from (has_float (f x)) (items_have_float (items_of (map f xs))) (none x) (items-no_float f none xs)
+
+-- ---- contents
+
+pub text-no_float : (text : List ℕ) → has_float (text_data text) ≡ false
+unfolding text_data
+text-no_float text = refl
+
+pub value-no_float : (packages : List PackageNameOf) (value : ValueContentOf) (xml : Data) → has_float xml ≡ false → has_float (value_data packages value xml) ≡ false
+unfolding value_data text_data
+value-no_float packages (StringOf text) xml none = or_from (has_float xml) false none refl
+value-no_float packages (GarbledOf text) xml none = or_from (has_float xml) false none refl
+value-no_float packages (BrokenOf broken) xml none = or_from (has_float xml) false none refl
+value-no_float packages (ReferenceOf label) xml none = or_from (has_float xml) false none refl
+value-no_float packages (AttributeOf label) xml none = or_from (has_float xml) false none refl
+value-no_float packages (OtherOf value) xml none = or_from (has_float xml) false none refl
+
+pub key-no_float : (packages : List PackageNameOf) (key : RowKeyOf) → has_float (key_data packages key) ≡ false
+unfolding key_data text_data
+key-no_float packages (PlaceOf place) = refl
+key-no_float packages (QuantityOf quantity) = refl
+key-no_float packages (CalledOf label) = refl
+
+pub row_value-no_float : (packages : List PackageNameOf) (key : RowKeyOf) (value : ValueContentOf) → has_float (row_value_data packages key value) ≡ false
+row_value-no_float packages key value = value-no_float packages value _ (text-no_float _)
+
+pub row-no_float : (packages : List PackageNameOf) (row : RowContentOf) → has_float (row_data packages row) ≡ false
+unfolding row_data
+row-no_float packages row =
+    or_from (has_float (key_data packages row.key)) _ (key-no_float packages row.key)
+    (or_from (has_float (row_value_data packages row.key row.value)) false (row_value-no_float packages row.key row.value) refl)
+
+pub content-no_float : (packages : List PackageNameOf) (content : ContentOf) → has_float (content_data packages content) ≡ false
+unfolding content_data text_data
+content-no_float packages (ValueOf value) = or_from _ false (value-no_float packages value _ refl) refl
+content-no_float packages (BagOf rows) = or_from _ false (items-no_float (row_data packages) (row-no_float packages) rows) refl
+content-no_float packages (AbsentOf label) = refl
+content-no_float packages (TooManyReferencesOf label) = refl
+content-no_float packages (TooManyParentsOf label) = refl
+
+-- ---- devices
+
+pub set-no_float : (set : SetOf) → has_float (set_data set) ≡ false
+unfolding set_data text_data
+set-no_float (RangeOf low high) = refl
+set-no_float (NumbersOf numbers) = items-no_float number_data (λ number. refl) numbers
+set-no_float (LocalesOf numbers) = items-no_float locale_data (λ number. refl) numbers
+
+abbrev NoFloat : Members → Type 0
+NoFloat ms = members_have_float ms ≡ false
+
+at_order : (o : Ordering) (k l : List ℕ) (d e : Data) (ms : Members) → has_float d ≡ false → has_float e ≡ false → NoFloat ms → NoFloat (put k d ms)
+    → NoFloat (match_ordering o (member k d (member l e ms)) (member l d ms) (member l e (put k d ms)))
+at_order order.Less k l d e ms new old others more = or_from (has_float d) _ new (or_from (has_float e) _ old others)
+at_order order.Equal k l d e ms new old others more = or_from (has_float d) _ new others
+at_order order.Greater k l d e ms new old others more = or_from (has_float e) _ old more
+
+put-no_float : (k : List ℕ) (d : Data) (ms : Members) → has_float d ≡ false → NoFloat ms → NoFloat (put k d ms)
+put-no_float k d no_members new others = or_from (has_float d) false new refl
+put-no_float k d (member l e ms) new others =
+    let parts = or_parts (has_float e) (members_have_float ms) others in
+    at_order (slice_cmp nat_cmp k l) k l d e ms new parts.0 parts.1 (put-no_float k d ms new parts.1)
+
+either : (b : Bool) (ms others : Members) → NoFloat ms → NoFloat others → NoFloat (if b then ms else others)
+either true ms others first second = first
+either false ms others first second = second
+
+with-no_float : (whole part : List SetOf) (ms : Members) (c : Coord) → NoFloat ms → NoFloat (with_narrower whole part ms c)
+unfolding with_narrower
+with-no_float whole part ms c none = either (is_narrower whole part c) _ ms (put-no_float (name_of c) (set_data (set_at part c)) ms (set-no_float (set_at part c)) none) none
+
+narrower-no_float : (whole part : List SetOf) (ms : Members) (coords : List Coord) → NoFloat ms → NoFloat (fold (with_narrower whole part) ms coords)
+narrower-no_float whole part ms [] none = none
+narrower-no_float whole part ms (c ∷ coords) none = narrower-no_float whole part (with_narrower whole part ms c) coords (with-no_float whole part ms c none)
+
+pub devices-no_float : (whole part : List SetOf) → has_float (devices_data whole part) ≡ false
+unfolding devices_data
+devices-no_float whole part = narrower-no_float whole part no_members all_coords refl
