@@ -9,7 +9,9 @@ ghost use Rattle.restool.specs.Request.{locales_at};
 
 use crate::argument_fault::ArgumentFault;
 use crate::asked_words::{Asks, asked_words, named_word};
-use crate::command_line::{Argument, DOT, JSON, LOCALES, MAX_NODES, MOST_NODES, NODES_IF_LEFT_OUT, RAW};
+use crate::command_line::{
+    Argument, DOT, JSON, LOCALES, MAX_NODES, MOST_NODES, NODES_IF_LEFT_OUT, RAW,
+};
 use clap::ArgMatches;
 use diff_command::{Form, LineForm};
 use resource_tool::{LocaleRule, Named};

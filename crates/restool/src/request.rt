@@ -10,14 +10,14 @@ ghost use Rattle.resource_tool.specs.command_base.CarriesOut.{IsKept};
 
 use crate::argument_fault::ArgumentFault;
 use crate::arguments::{
-    given_asked, given_flag, given_form, given_goal_number, given_line_form, given_maybe_word, given_named,
-    given_nodes, given_rule, given_word,
+    given_asked, given_flag, given_form, given_goal_number, given_line_form, given_maybe_word,
+    given_named, given_nodes, given_rule, given_word,
 };
 use crate::asked_words::Asks;
 use crate::command_line::{
     ALL, ALL_GOALS, ATTRIBUTE, BAG_ID, BOX, CERTIFICATE, CONFIG, DEVICE, DOT, GOAL_NAMES, GOALS,
-    ID, IDS, JSON, KEEP, LAYERS, LOCALES, MAX_NODES, MAYBE_BOX, MAYBE_NAMES, NAMES, NEW, NOTATION, OLD,
-    OMIT, OVERLAY, PARTING_NODES, RAW, STYLES, TABLE, TARGET, Usage,
+    ID, IDS, JSON, KEEP, LAYERS, LOCALES, MAX_NODES, MAYBE_BOX, MAYBE_NAMES, NAMES, NEW, NOTATION,
+    OLD, OMIT, OVERLAY, PARTING_NODES, RAW, STYLES, TABLE, TARGET, Usage,
 };
 use crate::left::LayerWords;
 use clap::ArgMatches;
@@ -159,7 +159,16 @@ pub(crate) const USAGES: &[Usage] = &[
     Usage {
         name: DIFF,
         about: "Prints what a change of layers alters, for every device of a box",
-        arguments: &[LOCALES, RAW, JSON, PARTING_NODES, OLD, NEW, BOX, MAYBE_NAMES],
+        arguments: &[
+            LOCALES,
+            RAW,
+            JSON,
+            PARTING_NODES,
+            OLD,
+            NEW,
+            BOX,
+            MAYBE_NAMES,
+        ],
     },
     Usage {
         name: VALUES,
