@@ -58,7 +58,7 @@ mod unused_rows;
 mod value_lines;
 mod values;
 
-pub use change_text::LineForm;
+pub use change_text::{Form, LineForm};
 pub use command_base::{LayerParts, Status, ToolFault};
 pub use diff::Diff;
 pub use opened::{NamedDiff, OpenedDiff};
