@@ -1,12 +1,12 @@
 #!/usr/bin/env python3
-"""Holds the JSON Schemas of the inputs against what restool reads and refuses:
+"""Holds the JSON Schemas of the inputs against what restool reads and refuses, and those of lines that it prints against such lines:
 
-    check_schemas.py PROGRAM [INPUT..]
+    check_schemas.py PROGRAM [SCHEMA..]
 
-for each input, or for those that are named: layers, id-map, device, box, certificate. Texts that a schema judges
-as restool does stand in ALIKE with the fault that restool tells, none where the text is accepted. In BEYOND are texts
-that restool refuses for what a schema can't say, and in AS_PHONE those of them that it reads with `--locales android`. The
-last line is the number of texts."""
+for each schema, or for those that are named: layers, id-map, device, box, certificate, diff-line, values-line. Texts that a schema
+judges as restool does stand in ALIKE with the fault that restool tells, none where the text is accepted. In BEYOND are texts
+that restool refuses for what a schema can't say, and in AS_PHONE those of them that it reads with `--locales android`. In LINES are
+the lines, and what is none; what restool prints of random cases check_json.py looks at. The last line is the number of texts."""
 import json
 import os
 import re
@@ -372,6 +372,131 @@ def at_the_limits():
             yield "box", (json.dumps({"density": [160], name: {"from": 1, "to": number}}), told)
 
 
+# ---- lines that restool prints
+
+SAME = '{"count":14,"line":"same"}'
+LIMIT = '{"line":"node limit"}'
+DIMENSION = '{"kind":5,"word":3329,"xml":"13dp"}'
+STRING = r'{"string":"say \"hi\"","xml":"\"say \\\"hi\\\"\""}'
+GARBLED = r'{"garbled":"\"half \\ud83d\"","xml":"\"half \\ud83d\""}'
+BROKEN = '{"broken":"!NoSuch 12","xml":"!NoSuch 12"}'
+REFERENCE = '{"reference":"color/ink","xml":"@color/ink"}'
+ATTRIBUTE = '{"attribute":"android:attr/tint","xml":"?android:attr/tint"}'
+
+
+def said(content, devices="{}", on=""):
+    """A line of `values`."""
+    says = f'{{"content":{content},"devices":{devices},"on":"{on}"}}'
+    return f'{{"line":"value","name":"dimen/handle","says":{says}}}'
+
+
+def valued(value):
+    return said(f'{{"value":{value}}}')
+
+
+def bag(*items):
+    """A line of `values` of a bag, whose rows have these keys and values."""
+    listed = ",".join(f'{{"key":{key},"value":{value}}}' for key, value in items)
+    return said(f'{{"bag":[{listed}]}}')
+
+
+DEVICES = '"devices":{"density":{"from":120,"to":197}},"on":"<198dpi"'
+
+
+def changed(members):
+    """A line of `diff` that says this."""
+    return f'{{"line":"changed","name":"style/Card","says":{{{members}}}}}'
+
+
+def contents(members):
+    """The same on some devices."""
+    return changed(f"{members},{DEVICES}")
+
+
+def rows(listed):
+    """The same of rows that differ."""
+    return changed(f'{DEVICES},"rows":[{listed}]')
+
+
+LINES = {
+    "diff-line": [
+        (contents(f'"after":{{"value":{DIMENSION}}},"before":{{"value":{STRING}}}'), True),
+        (contents(f'"after":{{"absent":"0x7f010000"}},"before":{{"bag":[{{"key":0,"value":{STRING}}}]}}'), True),
+        (rows(f'{{"after":{ATTRIBUTE},"before":{REFERENCE},"key":"attr/tint"}}'), True),
+        (rows(f'{{"after":{BROKEN},"key":"other"}},{{"before":{GARBLED},"key":3}}'), True),
+        ('{"line":"added","name":"string/\\"a b\\""}', True),
+        ('{"line":"removed","name":"android:color/white"}', True),
+        ('{"line":"shared-names","new":0,"old":1}', True),
+        ('{"line":"set-aside","new":1,"old":1}', True),
+        (SAME, True),
+        (LIMIT, True),
+        ("{}", False),
+        ("[]", False),
+        ('"same"', False),
+        (contents(f'"after":{{"value":{DIMENSION}}}'), False),
+        (contents(f'"after":{{"value":{DIMENSION}}},"before":{DIMENSION}'), False),
+        (contents(f'"after":{{"value":{DIMENSION}}},"before":{{"value":{DIMENSION}}},"rows":[]'), False),
+        (contents(f'"content":{{"value":{DIMENSION}}}'), False),
+        (rows(""), False),
+        (rows('{"key":0}'), False),
+        (rows(f'{{"after":{DIMENSION},"before":{DIMENSION}}}'), False),
+        (rows(f'{{"key":0,"value":{DIMENSION}}}'), False),
+        (rows(f'{{"after":{DIMENSION},"key":0,"row":0}}'), False),
+        ('{"line":"changed","name":"style/Card"}', False),
+        ('{"line":"added","name":"handle"}', False),
+        ('{"line":"added","name":"dimen/handle","says":{}}', False),
+        ('{"line":"added"}', False),
+        ('{"line":"set-aside","new":1}', False),
+        ('{"line":"set-aside","new":-1,"old":1}', False),
+        ('{"count":1,"line":"set-aside"}', False),
+        ('{"count":"14","line":"same"}', False),
+        ('{"line":"same"}', False),
+        ('{"count":0,"line":"node limit"}', False),
+        ('{"count":14,"line":"resources"}', False),
+        (valued(DIMENSION), False),
+    ],
+    "values-line": [
+        *((valued(value), True) for value in (DIMENSION, STRING, GARBLED, BROKEN, REFERENCE, ATTRIBUTE)),
+        (said(f'{{"value":{DIMENSION}}}', '{"locale":["","de-AT","sr-Latn-RS"],"orientation":[2]}', "land"), True),
+        (said(f'{{"value":{DIMENSION}}}', '{"sdk":{"from":21,"to":21}}', "v21"), True),
+        *((said(f'{{"{why}":"dimen/handle"}}'), True) for why in ("absent", "tooManyReferences", "tooManyParents")),
+        (bag(), True),
+        (bag((0, STRING), (1, REFERENCE)), True),
+        (bag(('"format"', DIMENSION), ('"0x01010098"', ATTRIBUTE)), True),
+        ('{"count":1,"line":"shared-names"}', True),
+        ('{"count":2,"line":"set-aside"}', True),
+        ('{"count":0,"line":"resources"}', True),
+        (LIMIT, True),
+        (valued('{"string":"Teapot"}'), False),
+        (valued('{"string":"Teapot","xml":"Teapot"}'), False),
+        (valued('{"kind":5,"xml":"13dp"}'), False),
+        (valued('{"kind":256,"word":0,"xml":"0"}'), False),
+        (valued('{"kind":5,"word":4294967296,"xml":"13dp"}'), False),
+        (valued('{"kind":5,"word":3329,"xml":""}'), False),
+        (valued('{"broken":"!Gone 12","xml":"!Gone 12"}'), False),
+        (valued('{"reference":"color/ink","xml":"color/ink"}'), False),
+        (valued('{"attribute":"attr/tint","xml":"@attr/tint"}'), False),
+        (valued('{"kind":5,"reference":"color/ink","word":3329,"xml":"@color/ink"}'), False),
+        (said(DIMENSION), False),
+        (said("{}"), False),
+        (said('{"absent":"dimen/handle","tooManyParents":"dimen/handle"}'), False),
+        (said('{"absent":"0x7f01"}'), False),
+        (bag((-1, STRING)), False),
+        (bag(('"[0]"', STRING)), False),
+        (said(f'{{"value":{DIMENSION}}}', '{"dpi":[160]}'), False),
+        (said(f'{{"value":{DIMENSION}}}', '{"density":160}'), False),
+        (said(f'{{"value":{DIMENSION}}}', '{"density":[]}'), False),
+        (said(f'{{"value":{DIMENSION}}}', '{"locale":["DE"]}'), False),
+        (said(f'{{"value":{DIMENSION}}}', '{"locale":["no-locale"]}'), False),
+        ('{"line":"value","name":"dimen/handle","says":{"content":{"bag":[]},"devices":{}}}', False),
+        ('{"count":0,"line":"shared-names"}', False),
+        ('{"line":"set-aside","new":1,"old":1}', False),
+        (SAME, False),
+        (rows(f'{{"after":{DIMENSION},"key":0}}'), False),
+    ],
+}
+
+
 # ---- what restool says
 
 FILES = {
@@ -402,18 +527,29 @@ def fault_told(program, options, name, text):
     return None if done.returncode in (0, 1) else f"status {done.returncode}: {done.stderr}"
 
 
+def is_text_valid(schema, text):
+    return is_valid(schema, schema, json.loads(text))
+
+
 def check(program, name, schema, text, fault, is_schema_valid, options=()):
     told = fault_told(program, options, name, text)
-    valid = is_valid(schema, schema, json.loads(text))
+    valid = is_text_valid(schema, text)
     if told == fault and valid == is_schema_valid:
         return []
     return [f"{name} {text[:120]}: told {told}, not {fault}; {'valid' if valid else 'not valid'} by the schema"]
 
 
+def check_lines(name, schema):
+    """The lines that a schema judges otherwise than it should."""
+    wrong = [(text, is_line) for text, is_line in LINES[name] if is_text_valid(schema, text) != is_line]
+    return [f"{name} {text}: {'not ' * is_line}valid by the schema" for text, is_line in wrong]
+
+
 def main():
     program = os.path.abspath(sys.argv[1])
-    names = sys.argv[2:] or list(ALIKE)
-    schemas = {name: json.load(open(os.path.join(SCHEMAS, f"{name}.json"))) for name in names}
+    named = sys.argv[2:] or [*ALIKE, *LINES]
+    schemas = {name: json.load(open(os.path.join(SCHEMAS, f"{name}.json"))) for name in named}
+    names, lines = ([name for name in named if name in texts] for texts in (ALIKE, LINES))
     texts = [(name, text, fault, fault is None) for name in names for text, fault in ALIKE[name]]
     texts += [(name, text, fault, fault is None) for name, (text, fault) in at_the_limits() if name in names]
     for name in names:
@@ -427,10 +563,12 @@ def main():
         with open("map", "w") as empty:
             empty.write("[]")
         faults = [fault for name, *text in texts for fault in check(program, name, schemas[name], *text)]
+    faults += [fault for name in lines for fault in check_lines(name, schemas[name])]
     for fault in faults:
         print(fault)
-    print(f"{len(texts)} texts")
+    print(f"{len(texts) + sum(len(LINES[name]) for name in lines)} texts")
     sys.exit(bool(faults))
 
 
-main()
+if __name__ == "__main__":
+    main()
