@@ -444,6 +444,9 @@ ends "a change within too many nodes" 2 '"$0" diff --max-nodes 1000001 old new b
 ends "two raw forms of a change" 2 '"$0" diff --raw --raw old new box'
 ends "two limits of a change" 2 '"$0" diff --max-nodes 1 --max-nodes 1 old new box'
 ends "names beside the ids of a change" 2 '"$0" diff --names old new box'
+ends "two forms of JSON of a change" 2 '"$0" diff --json --json old new box'
+line none.json '{"count":0,"line":"same"}'
+check "a change of nothing, as JSON" 0 none.json $none diff --json new new box
 
 # ---- values
 line no-values.out 'resources 0'
@@ -466,6 +469,8 @@ no_values "a name that the stack lacks" 1 'no resource string/none' old box 'str
 no_values "a bad name of values comes before the files" 2 'command: bad id string' absent absent string
 ends "values without a box" 2 '"$0" values new'
 ends "values within 0 nodes" 2 '"$0" values --max-nodes 0 new box'
+line no-values.json '{"count":0,"line":"resources"}'
+check "the values of no layers, as JSON" 0 no-values.json $none values --json new box
 
 # ---- unused
 line no-rows.out 'rows 0 unused 0 overlaid 0 unmapped 0 bytes 0'
@@ -490,8 +495,10 @@ no_unused "a bad name of unused comes before the files" 2 'command: bad id strin
 ends "unused without a box" 2 '"$0" unused new'
 ends "unused within 0 nodes" 2 '"$0" unused --max-nodes 0 new box'
 ends "unused rows that are raw" 2 '"$0" unused --raw new box'
+ends "unused rows as JSON" 2 '"$0" unused --json new box'
 
 ends "diff to a closed output" 5 '"$0" diff new new box >&-'
+ends "diff as JSON to a closed output" 5 '"$0" diff --json new new box >&-'
 
 line plain '[{"table":"examples/teapot/resources.arsc"}]'
 printf '%s\n' 'changed bool/whistles true -> false' \
@@ -513,6 +520,18 @@ printf '%s\n' 'changed bool/whistles true -> false' \
     'changed string/title "Teekanne" -> "Porzellankanne" on all but en-rGB,en-rUS' 'set-aside 1 1' 'same 14' >"$work/changed.out"
 check "what the porcelain changes" 1 "$work/changed.out" $none \
     diff "$work/plain" examples/porcelain/layers.json examples/porcelain/phones.json
+title='{"line":"changed","name":"string/title","says":'
+printf '%s\n' '{"line":"changed","name":"dimen/handle","says":{"after":{"value":{"kind":5,"word":4097,"xml":"16dp"}},"before":{"value":{"kind":5,"word":3073,"xml":"12dp"}},"devices":{"density":{"from":120,"to":197}},"on":"<198dpi"}}' \
+    "$title"'{"after":{"value":{"string":"Porcelain teapot","xml":"\"Porcelain teapot\""}},"before":{"value":{"string":"Teapot","xml":"\"Teapot\""}},"devices":{"locale":["en-GB","en-US"]},"on":"en-rGB,en-rUS"}}' \
+    "$title"'{"after":{"value":{"string":"Porzellankanne","xml":"\"Porzellankanne\""}},"before":{"value":{"string":"Teekanne","xml":"\"Teekanne\""}},"devices":{"locale":["de-AT","de-CH","de-DE"]},"on":"all but en-rGB,en-rUS"}}' \
+    '{"line":"set-aside","new":1,"old":1}' '{"count":0,"line":"same"}' >"$work/changed.json"
+overlaid=examples/teapot.apk+examples/porcelain.apk
+check "what the porcelain changes, as JSON" 1 "$work/changed.json" $none \
+    diff --json examples/teapot.apk $overlaid examples/porcelain/phones.json dimen/handle string/title
+printf '%s\n' '{"line":"value","name":"dimen/handle","says":{"content":{"value":{"kind":5,"word":3329,"xml":"13dp"}},"devices":{"density":{"from":198,"to":640}},"on":">=198dpi"}}' \
+    '{"line":"value","name":"dimen/handle","says":{"content":{"value":{"kind":5,"word":4097,"xml":"16dp"}},"devices":{"density":{"from":120,"to":197}},"on":"<198dpi"}}' \
+    '{"count":1,"line":"set-aside"}' '{"count":1,"line":"resources"}' >"$work/values.json"
+check "what its handle says, as JSON" 0 "$work/values.json" $none values --json $overlaid examples/porcelain/phones.json dimen/handle
 cd "$work" || exit 1
 if command -v python3 >/dev/null; then
     ends "worked changes of an app" 0 "python3 '$here/tests/worked_diff.py' \"\$0\""
@@ -520,6 +539,8 @@ if command -v python3 >/dev/null; then
     ends "random changes of layers by a phone's locales" 0 "python3 '$here/tests/check_diff.py' --locales android \"\$0\" 400 4"
     ends "what random layers say" 0 "python3 '$here/tests/check_diff.py' --values \"\$0\" 400 4"
     ends "what random layers say by a phone's locales" 0 "python3 '$here/tests/check_diff.py' --values --locales android \"\$0\" 400 4"
+    ends "random changes and what layers say, as JSON" 0 "python3 '$here/tests/check_json.py' \"\$0\" 200 4"
+    ends "the same as JSON by a phone's locales" 0 "python3 '$here/tests/check_json.py' --locales android \"\$0\" 200 4"
     ends "which rows of random layers are unused" 0 "python3 '$here/tests/check_unused.py' \"\$0\" 400 4"
     ends "which are by a phone's locales" 0 "python3 '$here/tests/check_unused.py' --locales android \"\$0\" 400 4"
     by_aapt=--aapt
@@ -531,7 +552,7 @@ fi
 
 # ---- README and the guide: what they show after a command is what it prints
 
-# shows PAGE FOLDER: the commands of this page of the folder, run there one after the other.
+# shows PAGE FOLDER: the commands of this page of the folder, run there one after the other. Those with jq need that.
 shows() {
     rm -rf shown
     mkdir shown
@@ -539,6 +560,9 @@ shows() {
         /^```/ { name = "" } name { print >(name ".lines") }' "$2/$1"
     for shown in shown/*.lines; do
         command=$(cat "${shown%.lines}.command")
+        case $command in
+        *'| jq '*) command -v jq >/dev/null || { echo "not run, since jq is missing: $command"; continue; } ;;
+        esac
         (cd "$2" && sh -c "$command") >printed 2>&1
         ends "$1's output of '$command' in $2" 0 "awk -f '$here/tests/shown.awk' '$shown' printed >&2"
     done

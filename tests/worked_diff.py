@@ -353,6 +353,117 @@ NOTATED = [
 ]
 
 
+AS_JSON = [
+    # The same as lines of JSON. Those of one name stand in another order than as text.
+    (
+        changed(resource("dimen/margin", (ANY, dp(4)), (LAND, dp(8)))),
+        ("dimen/margin",),
+        '{"line":"changed","name":"dimen/margin","says":{"after":{"value":{"kind":5,"word":1025,"xml":"4dp"}},'
+        '"before":{"value":{"kind":5,"word":4097,"xml":"16dp"}},'
+        '"devices":{"orientation":[1],"smallestWidthDp":{"from":600,"to":720}},"on":"sw>=600dp port"}}\n'
+        '{"line":"changed","name":"dimen/margin","says":{"after":{"value":{"kind":5,"word":2049,"xml":"8dp"}},'
+        '"before":{"value":{"kind":5,"word":4097,"xml":"16dp"}},'
+        '"devices":{"orientation":[2],"smallestWidthDp":{"from":600,"to":720}},"on":"sw>=600dp land"}}\n'
+        '{"count":0,"line":"same"}',
+    ),
+    (
+        changed(resource("string/cancel", (GERMAN, Text("Abbruch")))),
+        ("string/cancel",),
+        '{"line":"changed","name":"string/cancel","says":{"after":{"absent":"string/cancel"},'
+        r'"before":{"value":{"string":"Cancel","xml":"\"Cancel\""}},"devices":{"locale":["","fr-FR"]},"on":"no-locale,fr-rFR"}}'
+        '\n{"line":"changed","name":"string/cancel","says":{'
+        r'"after":{"value":{"string":"Abbruch","xml":"\"Abbruch\""}},"before":{"value":{"string":"Abbrechen","xml":"\"Abbrechen\""}},'
+        '"devices":{"locale":["de-AT","de-DE"]},"on":"de-rAT,de-rDE"}}\n'
+        '{"count":0,"line":"same"}',
+    ),
+    (
+        changed(resource("style/Card", (ANY, Bag(0, [("attr/size", "@dimen/margin"), ("attr/tint", (1, 0))])))),
+        ("style/Card",),
+        '{"line":"changed","name":"style/Card","says":{"devices":{"sdk":{"from":21,"to":25}},"on":"v<26","rows":['
+        '{"after":{"reference":"0x00000000","xml":"@null"},"before":{"reference":"color/ink","xml":"@color/ink"},"key":"attr/tint"}]}}\n'
+        '{"line":"changed","name":"style/Card","says":{"devices":{"sdk":{"from":26,"to":30}},"on":"v>=26","rows":['
+        '{"after":{"reference":"dimen/margin","xml":"@dimen/margin"},"before":{"reference":"dimen/handle","xml":"@dimen/handle"},'
+        '"key":"attr/size"},'
+        '{"after":{"reference":"0x00000000","xml":"@null"},"before":{"reference":"color/ink","xml":"@color/ink"},"key":"attr/tint"}]}}\n'
+        '{"count":0,"line":"same"}',
+    ),
+    (
+        changed(resource("attr/size", (ANY, Bag(0, [(FORMATS, (0x10, 0x41)), (FORMATS + 1, (0x10, 3))])))),
+        ("attr/size",),
+        '{"line":"changed","name":"attr/size","says":{"after":{"bag":['
+        '{"key":"format","value":{"kind":16,"word":65,"xml":"reference|dimension"}},{"key":"min","value":{"kind":16,"word":3,"xml":"3"}}]},'
+        '"before":{"value":{"kind":16,"word":0,"xml":"0"}},"devices":{},"on":""}}\n'
+        '{"count":0,"line":"same"}',
+    ),
+    (
+        array(0x01000001, "b"),
+        (),
+        '{"line":"changed","name":"array/x","says":{"devices":{},"on":"","rows":['
+        r'{"after":{"string":"b","xml":"\"b\""},"before":{"string":"a","xml":"\"a\""},"key":0},'
+        r'{"before":{"string":"c","xml":"\"c\""},"key":1}]}}'
+        '\n{"count":0,"line":"same"}',
+        array(0x02000000, "a", "c"),
+    ),
+    (
+        array(0x02000000, "a", "c"),
+        (),
+        r'{"line":"changed","name":"array/x","says":{"devices":{},"on":"","rows":[{"after":{"string":"c","xml":"\"c\""},"key":1}]}}'
+        '\n{"count":0,"line":"same"}',
+        array(0x01000001, "a"),
+    ),
+    # A string as it is, and as it is printed; and strings that are no text, or cannot be read.
+    (
+        one("string/s", Text('say "hi"\n\x01\u2028😀')),
+        (),
+        '{"line":"changed","name":"string/s","says":{'
+        r'"after":{"value":{"string":"say \"hi\"\n\u0001'
+        "\u2028😀"
+        r'","xml":"\"say \\\"hi\\\"\\x0a\\x01\\u2028😀\""}},'
+        r'"before":{"value":{"garbled":"\"half \\xed\\xa0\\xbd\"","xml":"\"half \\xed\\xa0\\xbd\""}},"devices":{},"on":""}}'
+        '\n{"count":0,"line":"same"}',
+        one("string/s", Text("half \ud83d")),
+    ),
+    (
+        one("string/s", (3, 9)),
+        (),
+        '{"line":"changed","name":"string/s","says":{"after":{"value":{"broken":"!NoSuch 9","xml":"!NoSuch 9"}},'
+        '"before":{"value":{"broken":"!NoSuch 8","xml":"!NoSuch 8"}},"devices":{},"on":""}}\n'
+        '{"count":0,"line":"same"}',
+        one("string/s", (3, 8)),
+    ),
+    (
+        one("color/a", "@color/a"),
+        (),
+        '{"line":"changed","name":"color/a","says":{"after":{"tooManyReferences":"color/a"},'
+        '"before":{"value":{"attribute":"0x01010001","xml":"?0x01010001"}},"devices":{},"on":""}}\n'
+        '{"count":0,"line":"same"}',
+        one("color/a", (2, 0x01010001)),
+    ),
+    (
+        app([resource("style/a", (ANY, "@style/b")), resource("style/b", (ANY, Bag("style/b", [])))]),
+        ("style/a",),
+        '{"line":"changed","name":"style/a","says":{"after":{"tooManyParents":"style/b"},"before":{"absent":"style/b"},'
+        '"devices":{},"on":""}}\n'
+        '{"count":0,"line":"same"}',
+        app([resource("style/a", (ANY, "@style/b")), resource("style/b", (GREEK, Bag(0, [])))]),
+    ),
+    # Names, counts, and what stands in place of all lines.
+    (app([resource("string/about", (ANY, Text("About"))), *APP]), (), '{"line":"added","name":"string/about"}\n{"count":12,"line":"same"}'),
+    (app(APP[1:]), ("attr/size", "dimen/*", "dimen/margin"), '{"line":"removed","name":"attr/size"}\n{"count":2,"line":"same"}'),
+    (one('string/a "b"', dp(1)), (), r'{"line":"added","name":"string/\"a \\\"b\\\"\""}' + '\n{"count":0,"line":"same"}', []),
+    (
+        shared("other"),
+        (),
+        '{"line":"added","name":"dimen/other"}\n{"line":"removed","name":"0x7f010001"}\n{"line":"shared-names","new":0,"old":1}\n'
+        '{"count":1,"line":"same"}',
+        shared("same"),
+    ),
+    (one("string/s", dp(1)), (), '{"line":"set-aside","new":0,"old":2}\n{"count":1,"line":"same"}', scripted(2)),
+    (changed(resource("dimen/margin", (ANY, dp(4)))), ("dimen/margin", "--max-nodes", "1"), '{"line":"node limit"}'),
+    (app(APP), ("dimen/handle", "dimen/none"), "no resource dimen/none"),
+]
+
+
 VALUES = [
     # Each device is in one line of a resource. Of two qualifiers a line has those that have both values. The rows of a bag stand below.
     (
@@ -407,6 +518,60 @@ VALUES = [
     ),
     (shared("same"), (), "dimen/same 1dp\n0x7f010001 2dp\nwarning shared-names 1\nresources 2"),
     (scripted(2), (), "string/s 1dp\nset-aside 2\nresources 1"),
+    # As JSON, also where --raw stands too.
+    (
+        app(APP),
+        ("dimen/margin",),
+        '{"line":"value","name":"dimen/margin","says":{"content":{"value":{"kind":5,"word":1025,"xml":"4dp"}},'
+        '"devices":{"orientation":[1],"smallestWidthDp":{"from":320,"to":599}},"on":"sw<600dp port"}}\n'
+        '{"line":"value","name":"dimen/margin","says":{"content":{"value":{"kind":5,"word":2049,"xml":"8dp"}},'
+        '"devices":{"orientation":[2],"smallestWidthDp":{"from":320,"to":599}},"on":"sw<600dp land"}}\n'
+        '{"line":"value","name":"dimen/margin","says":{"content":{"value":{"kind":5,"word":4097,"xml":"16dp"}},'
+        '"devices":{"smallestWidthDp":{"from":600,"to":720}},"on":"sw>=600dp"}}\n'
+        '{"count":1,"line":"resources"}',
+        "--json",
+    ),
+    (
+        app(APP),
+        ("plurals/cups",),
+        '{"line":"value","name":"plurals/cups","says":{"content":{"bag":['
+        r'{"key":"other","value":{"string":"%d cups","xml":"\"%d cups\""}},{"key":"one","value":{"string":"%d cup","xml":"\"%d cup\""}}]},'
+        '"devices":{},"on":""}}\n'
+        '{"count":1,"line":"resources"}',
+        "--json",
+        "--raw",
+    ),
+    (
+        one("style/s", Bag(0, [])),
+        (),
+        '{"line":"value","name":"style/s","says":{"content":{"bag":[]},"devices":{},"on":""}}\n{"count":1,"line":"resources"}',
+        "--json",
+    ),
+    # The word of a number is as a device reads it.
+    (
+        app([resource("bool/b", (ANY, (0x12, 1))), resource("dimen/d", (ANY, (5, 4 << 8 | 0xC1)))]),
+        (),
+        '{"line":"value","name":"bool/b","says":{"content":{"value":{"kind":18,"word":4294967295,"xml":"true"}},"devices":{},"on":""}}\n'
+        '{"line":"value","name":"dimen/d","says":{"content":{"value":{"kind":5,"word":1025,"xml":"4dp"}},"devices":{},"on":""}}\n'
+        '{"count":2,"line":"resources"}',
+        "--json",
+    ),
+    (
+        shared("same"),
+        (),
+        '{"line":"value","name":"dimen/same","says":{"content":{"value":{"kind":5,"word":257,"xml":"1dp"}},"devices":{},"on":""}}\n'
+        '{"line":"value","name":"0x7f010001","says":{"content":{"value":{"kind":5,"word":513,"xml":"2dp"}},"devices":{},"on":""}}\n'
+        '{"count":1,"line":"shared-names"}\n{"count":2,"line":"resources"}',
+        "--json",
+    ),
+    (
+        scripted(2),
+        (),
+        '{"line":"value","name":"string/s","says":{"content":{"value":{"kind":5,"word":257,"xml":"1dp"}},"devices":{},"on":""}}\n'
+        '{"count":2,"line":"set-aside"}\n{"count":1,"line":"resources"}',
+        "--json",
+    ),
+    (app(APP), ("dimen/margin",), '{"line":"node limit"}', "--json", "--max-nodes", "1"),
 ]
 
 
@@ -487,20 +652,29 @@ UNUSED = [
 ]
 
 
+STOPS = "no resource ", "node limit"
+CHANGES = "changed", "added", "removed"
+FORMS = [("--raw", case) for case in CASES] + [("", case) for case in NOTATED] + [("--json", case) for case in AS_JSON]
+"""The cases of changes, and the option by which their lines are asked for."""
+
+
+def is_one(due, *starts):
+    """Whether the status is 1, where it is for lines that start so."""
+    return int(due.removeprefix('{"line":"').startswith(starts))
+
+
 def check_case(program, folder, place):
-    """The fault of a case. The first ones are printed raw."""
-    after, words, due, *before = [*CASES, *NOTATED][place]
+    """The fault of a case."""
+    form, (after, words, due, *before) = FORMS[place]
     write_inputs(folder, before[0] if before else app(APP), after, BOX)
-    form = ["--raw"] * (place < len(CASES))
-    status = int(due.startswith(("changed ", "added ", "removed ", "no resource ")))
-    return fault_of(folder, [program, "diff", *form, "old", "new", "box", *words], due, status)
+    return fault_of(folder, [program, "diff", *filter(None, [form]), "old", "new", "box", *words], due, is_one(due, *CHANGES, *STOPS))
 
 
 def check_values(program, folder, place):
     """The same of `values`. The layers that are told in Android's notation stand first."""
     layers, words, due, *form = VALUES[place]
     write_inputs(folder, [], layers, BOX)
-    return fault_of(folder, [program, "values", *form, "new", "box", *words], due, int(due.startswith("no resource ")))
+    return fault_of(folder, [program, "values", *form, "new", "box", *words], due, is_one(due, *STOPS))
 
 
 def check_unused(program, folder, place):
@@ -522,7 +696,7 @@ def fault_of(folder, command, due, status):
 def main():
     program = os.path.abspath(sys.argv[1])
     with tempfile.TemporaryDirectory() as folder:
-        faults = [check_case(program, folder, place) for place in range(len(CASES + NOTATED))]
+        faults = [check_case(program, folder, place) for place in range(len(FORMS))]
         faults += [check_values(program, folder, place) for place in range(len(VALUES))]
         faults += [check_unused(program, folder, place) for place in range(len(UNUSED))]
     print("".join(faults), end="")
