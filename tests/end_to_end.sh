@@ -543,11 +543,13 @@ if command -v python3 >/dev/null; then
     ends "the same as JSON by a phone's locales" 0 "python3 '$here/tests/check_json.py' --locales android \"\$0\" 200 4"
     ends "which rows of random layers are unused" 0 "python3 '$here/tests/check_unused.py' \"\$0\" 400 4"
     ends "which are by a phone's locales" 0 "python3 '$here/tests/check_unused.py' --locales android \"\$0\" 400 4"
+    ends "pages for reviewers" 0 "python3 '$here/tests/check_review.py' \"\$0\" 60 4"
+    ends "pages for reviewers by a phone's locales" 0 "python3 '$here/tests/check_review.py' --locales android \"\$0\" 60 4"
     by_aapt=--aapt
     command -v aapt >/dev/null || { by_aapt='' && echo "not run, since aapt is missing: releases of an app as it builds them"; }
     ends "what twelve changes of an app move in what its resources say" 0 "python3 '$here/tests/worked_releases.py' \"\$0\" $by_aapt"
 else
-    echo "not run, since python3 is missing: worked and random changes of layers, releases of an app"
+    echo "not run, since python3 is missing: worked and random changes of layers, pages for reviewers, releases of an app"
 fi
 
 # ---- README and the guide: what they show after a command is what it prints
@@ -608,7 +610,12 @@ if command -v dpkg-deb >/dev/null && command -v python3 >/dev/null; then
     ends "the same .deb twice" 0 "cmp 'first/$deb' 'second/$deb'"
     ends "what the .deb has" 0 "dpkg-deb -x 'first/$deb' installed"
     ends "its program" 0 "cmp installed/usr/bin/restool '$unpacked/restool'"
-    ends "its pages" 0 "diff -r -x restool -x SHA256SUMS -x copyright '$unpacked' installed/usr/share/doc/restool"
+    ends "its pages" 0 "diff -r -x restool -x tools -x SHA256SUMS -x copyright '$unpacked' installed/usr/share/doc/restool"
+    ends "what makes its pages for reviewers" 0 "cmp installed/usr/bin/restool-review '$unpacked/tools/review.py'"
+    of_porcelain='examples/teapot.apk examples/teapot.apk+examples/porcelain.apk examples/porcelain/phones.json'
+    ends "a page for reviewers" 0 "cd '$unpacked' && tools/review.py $of_porcelain >'$work/page'"
+    ends "the page says what changes" 0 "grep -q '<code>dimen/handle</code>' page"
+    ends "the same page by the .deb" 0 "cd '$unpacked' && PATH='$work/installed/usr/bin':\$PATH restool-review $of_porcelain | cmp - '$work/page'"
     ends "its manual has each command" 0 "gzip -cd installed/usr/share/man/man1/restool.1.gz >manual && for it in '$here'/tests/helps/*.txt; do it=\$(basename \$it .txt); [ \$it = restool ] || grep -qx \".SS \$it\" manual || exit 1; done"
     shares=$work/installed/usr/share
     if command -v bash >/dev/null; then

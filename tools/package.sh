@@ -2,10 +2,10 @@
 # Makes restool-VERSION-linux-x86_64.tar.gz and restool_VERSION_amd64.deb, and prints their paths: package.sh [FOLDER]
 #
 # FOLDER is where they go; out/ of the repository if it is left out. The first has the program, built here or prebuilt, and
-# what proved it, the README, docs, schemas and examples, the repository's licence files, and SHA256SUMS with the checksums of
-# all these. The second has the same for Debian's apt, with a manual page and what shells complete, both made from the
-# program's help. The same files give the same bytes. Needs GNU tar and gzip, and for the second dpkg-deb and python3: where
-# they are missing it says so, and makes the first alone.
+# what proved it, the README, docs, schemas and examples, tools/review.py, the repository's licence files, and SHA256SUMS with
+# the checksums of all these. The second has the same for Debian's apt, with a manual page and what shells complete, both made
+# from the program's help; tools/review.py is the command restool-review there. The same files give the same bytes. Needs GNU
+# tar and gzip, and for the second dpkg-deb and python3: where they are missing it says so, and makes the first alone.
 here=$(CDPATH='' cd "$(dirname "$0")/.." && pwd) || exit 1
 . "$here/tools/program.sh"
 stop() {
@@ -23,7 +23,7 @@ trap 'rm -rf "$work"' EXIT
 mkdir "$work/$name" && cp "$program" "$proved_with" "$work/$name" || exit 1
 
 cd "$here" || exit 1
-set -- README.md docs schemas examples
+set -- README.md docs schemas examples tools/review.py
 licence='The repository that this package is made of has no licence file.'
 for file in LICEN[CS]E* COPYING* NOTICE*; do
     if [ -f "$file" ]; then
@@ -55,7 +55,8 @@ doc=$root/usr/share/doc/restool
 umask 022
 mkdir -p "$root/DEBIAN" "$root/usr/bin" "$doc" "$root/usr/share/man/man1" "$root/usr/share/bash-completion/completions" \
     "$root/usr/share/zsh/vendor-completions" "$root/usr/share/fish/vendor_completions.d" || exit 1
-mv "$work/$name/restool" "$root/usr/bin/restool" && rm "$work/$name/SHA256SUMS" && cp -R "$work/$name/." "$doc" || exit 1
+mv "$work/$name/restool" "$root/usr/bin/restool" && mv "$work/$name/tools/review.py" "$root/usr/bin/restool-review" &&
+    rmdir "$work/$name/tools" && rm "$work/$name/SHA256SUMS" && cp -R "$work/$name/." "$doc" || exit 1
 
 # completes SHELL FILE: writes what a shell completes.
 completes() {
@@ -72,6 +73,7 @@ Version: ${version#restool }
 Architecture: amd64
 Maintainer: The maintainers of restool <maintainers@users.noreply.mirkhaot.example>
 Depends: libc6 (>= 2.34)
+Suggests: python3
 Section: devel
 Priority: optional
 Installed-Size: $(find "$root/usr" -type f -printf '%s\n' | awk '{ sum += int(($1 + 1023) / 1024) } END { print sum }')
