@@ -1,7 +1,8 @@
 -- How rows are counted beside what becomes of them.
-use Rattle.std.proofs.Common.{◌≡◌, ℕ, zero, suc, ◌+◌, ◌<◌, ◌≤◌, arith, List, [], ◌∷◌, ◌++◌, Option, append_assoc, drop, fold, get_or, length, map, refl, sym, ap, ◌∙◌}
+use Rattle.std.proofs.Common.{◌≡◌, ℕ, zero, suc, ◌+◌, ◌<◌, ◌≤◌, arith, false, ltb, List, [], ◌∷◌, ◌++◌, Option, append_assoc, drop, fold, get_or, length, map, refl, sym, ap, ◌∙◌}
 use Rattle.std.specs.List.{enumerate_from, flat_map, zip}
-use Rattle.std.proofs.lemmas.List.{append-nil}
+use Rattle.std.proofs.lemmas.Bool.{ltb-false}
+use Rattle.std.proofs.lemmas.List.{append-nil, length-map}
 use Rattle.std.proofs.lemmas.List.Sums.{fold-append}
 use Rattle.std.proofs.lemmas.List.{drop_more, drop_all}
 use Rattle.answer_text.specs.overlay_map.Layer.{LayerOf, by_itself}
@@ -60,6 +61,14 @@ found-layer stack place found on at =
     let it = found-at stack place found on at in
     let next : suc place ≡ place + 1 = omega arith in
     (it.0, it.1 ∙ ap (λ (n : ℕ). it.0 ∷ drop n stack) next, it.2)
+
+-- or none stands there
+pub layers-end : (stack : List LayerOf) (uses : List Uses) (place : ℕ) (apart : List (List LayerOf)) → apart ≡ map by_itself stack → false ≡ ltb place (length apart)
+    → zip {K = LayerOf} {X = Uses} (drop place stack) uses ≡ []
+layers-end stack uses place apart is past =
+    let count = ap length is ∙ length-map stack by_itself in
+    let few = ltb-false place (length apart) (sym past) in
+    ap (λ (layers : List LayerOf). zip {K = LayerOf} {X = Uses} layers uses) (drop_all place stack (omega (arith, count, few)))
 
 pub seen-next : {X Y : Type 0} (view : X → Y) (xs : List X) (place : ℕ) (x : X) → place < length xs → x ≡ get_or xs place x
     → map view (drop place xs) ≡ view x ∷ map view (drop (place + 1) xs)

@@ -2,7 +2,7 @@ use Rattle.std.proofs.Common.{◌≡◌, ◌+◌, ◌<◌, ◌++◌, arith, ap, 
 use Rattle.std.specs.List.{zip}
 use Rattle.std.proofs.lemmas.List.{drop_all}
 use Rattle.diff_command.specs.UnusedOutput.{layer_lines, used_rows, with_row}
-use Rattle.diff_command.proofs.UsedRows.{both-next, found-layer, layer-counted, layers-counted, seen-next, text-end, text-next, zip-none}
+use Rattle.diff_command.proofs.UsedRows.{both-next, found-layer, layer-counted, layers-counted, layers-end, seen-next, text-end, text-next, zip-none}
 use Rattle.diff_command.proofs.unused_rows.push_layers.Goals as goal
 
 pub loop-of_layer-preserved : goal.loop-of_layer-preserved
@@ -39,3 +39,13 @@ returns-clause-totals c =
     let place = c.loop-of_layer.place in
     let gone = ap (map (λ of_layer. of_layer.items)) (drop_all place c.args.uses.now (omega (arith, c.loop-of_layer.invariant.place, c.loop-of_layer-test.false))) in
     layers-counted _ _ _ (ap (zip (drop place c.args.stack)) gone ∙ zip-none (drop place c.args.stack)) c.loop-of_layer.invariant.counted
+
+pub returns-in_default-clause-text : goal.returns-in_default-clause-text
+returns-in_default-clause-text c =
+    let before = c.loop-of_layer.invariant in
+    text-end _ _ c.loop-of_layer.place _ (layers-end c.args.stack _ c.loop-of_layer.place c.deref.result.now (c.deref.ensures.value ∙ before.apart) c.in_default.ensures.lookup.0) before.text
+
+pub returns-in_default-clause-totals : goal.returns-in_default-clause-totals
+returns-in_default-clause-totals c =
+    let before = c.loop-of_layer.invariant in
+    layers-counted _ _ _ (layers-end c.args.stack _ c.loop-of_layer.place c.deref.result.now (c.deref.ensures.value ∙ before.apart) c.in_default.ensures.lookup.0) before.counted
