@@ -1,3 +1,4 @@
+pub mod Stopped
 pub mod Opening
 pub mod Asked
 pub mod PairSteps

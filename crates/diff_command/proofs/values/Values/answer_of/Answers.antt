@@ -1,11 +1,20 @@
-use Rattle.std.proofs.Common.{◌≡◌, map, sym, ap, ◌∙◌}
+use Rattle.std.proofs.Common.{◌≡◌, map, sym, ap, inl, refl, ◌∙◌}
+use Rattle.std.proofs.lemmas.Result.{err_from_is_err_and}
 use Rattle.command_base.specs.FileWords.{sets_held}
+use Rattle.command_base.specs.Stop.{tool}
 use Rattle.command_base.specs.names.NamedSet.{named_set_of}
 use Rattle.diff_command.specs.AskedPairs.{asked_of}
 use Rattle.diff_command.specs.Diff.{opened_asked}
 use Rattle.diff_command.specs.Values.{opened_values, values_held, values_inputs_by}
 use Rattle.diff_command.proofs.Asked.{opened-with}
 use Rattle.diff_command.proofs.values.Values.answer_of.Goals as goal
+
+pub returns-in_err-opened-clause-answers : goal.returns-in_err-opened-clause-answers
+unfolding opened_asked
+returns-in_err-opened-clause-answers g c =
+    let p = err_from_is_err_and c.from_residual-in_err-opened.result c.from_residual-in_err-opened.ensures.1 in
+    let words = rw c.deref.ensures.value at c.in_ok-sets.ensures in
+    rw (p.1, p.2) (λ told. inl (rw (words, c.in_err-opened.ensures.value (λ same. told (ap tool same))) refl))
 
 pub returns-clause-answers : goal.returns-clause-answers
 returns-clause-answers g c =
