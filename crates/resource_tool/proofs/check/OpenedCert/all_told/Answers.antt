@@ -11,12 +11,19 @@ use Rattle.resource_tool.specs.Check.{telling_of}
 use Rattle.resource_tool.specs.CheckOutput.{TellsAll, goal_told_of, naming_of}
 use Rattle.resource_tool.specs.OpenedSeen.{opened_cert}
 use Rattle.resource_tool.specs.declared.verdict_told.Told.{Told}
-use Rattle.resource_tool.proofs.EachGoalSteps.{all-rejections}
+use Rattle.resource_tool.proofs.EachGoalSteps.{all-rejections, goal-within}
 use Rattle.resource_tool.proofs.check.OpenedCert.all_told.Goals as goal
 
 if-both : {T E : Type 0} (result : Result T E) (P Q R : T → Type 0) → ((told : T) → P told → Q told → R told) → IfOk result P → IfOk result Q → IfOk result R
 if-both (Ok told) P Q R both p q = both told p q
 if-both (Err fault) P Q R both p q = tt
+
+pub all_rejections-requires : goal.all_rejections-requires
+all_rejections-requires c =
+    let inputs = opened_cert c.args.self in
+    let within = goal-within inputs.stack inputs.sets (map goal_seen c.args.goals.now) inputs.trees c.args.verdict c.args.goal c.requires.right c.requires.at in
+    let count = length-map c.args.self.certificate.goals.items goal_of in
+    omega (arith, within, count)
 
 pub returns : goal.returns
 returns c =
