@@ -1,8 +1,21 @@
 use Rattle.std.proofs.Common.{map}
-use Rattle.table_commands.proofs.command_base_proofs.CarriedOut.{read_then}
-use Rattle.resource_tool.specs.BoxFiles.{goal_files, goals_held}
-use Rattle.resource_tool.specs.Make.{MakesFiles}
+use Rattle.std.proofs.lemmas.Result.{err_from_is_err_and}
+use Rattle.table_commands.proofs.command_base_proofs.CarriedOut.{read_stops, read_then}
+use Rattle.resource_tool.specs.BoxFiles.{GoalBytes, goal_files, goals_held}
+use Rattle.resource_tool.specs.Make.{MakesFiles, PrintsMade, make_opened}
 use Rattle.resource_tool.proofs.make.Make.answer.Goals as goal
+
+pub returns-in_err-files-clause-answers : goal.returns-in_err-files-clause-answers
+returns-in_err-files-clause-answers g c =
+    let make = c.args.self.now in
+    let p = err_from_is_err_and c.from_residual.result c.from_residual.ensures.1 in
+    rw (p.1, p.2, ← c.deref.ensures.value) (
+    read_stops
+    (PrintsMade c.args.watch.is_terminal make.omit make.names make.max_nodes g.O.Write.contents g.E.Write.contents c.args.out.now c.args.out.now c.args.errors.now c.args.errors.now)
+    (λ (files : GoalBytes). make_opened make.locales files.layers files.box_json files.words)
+    (g.I.Inputs.places c.args.inputs.now) (λ places. goal_files places make.layers.now make.box_path.now (map (λ word. word.now) c.deref.result.now))
+    c.in_err-files.field-0.0 c.in_err-files.ensures
+    )
 
 pub returns-clause-answers : goal.returns-clause-answers
 returns-clause-answers g c =

@@ -1,5 +1,4 @@
-use Rattle.std.proofs.Common.{Ok, Err, inr, refl, rules, arith}
-use Rattle.std.proofs.lemmas.Grind.{common_steps}
+use Rattle.std.proofs.Common.{Ok, Err, inl, inr, refl}
 use Rattle.std.proofs.lemmas.Result.{err_from_is_err_and}
 use Rattle.table_commands.specs.command_base.FilesSeen.{layers_held}
 use Rattle.table_commands.specs.command_base.FileWords.{strings_held}
@@ -13,20 +12,34 @@ pub returns-clause-answers : goal.returns-clause-answers
 returns-clause-answers g c =
     let make = c.args.self.now in
     let files = c.args.files.now in
+    let opened = rw (c.deref.ensures.value, c.in_ok-layers.ensures, c.deref-2.ensures.value, c.deref-3.ensures.value) at c.in_ok-make.ensures in
     carried-looked_at c.args.watch.is_terminal make.omit make.names make.max_nodes g.O.Write.contents g.E.Write.contents c.args.out.now c.answer.new.out c.args.errors.now c.answer.new.errors
     (make_opened make.locales (layers_held files.layers) files.box_json.items (strings_held files.words)) (Ok c.in_ok-answer.field-0)
-    (first_of (search rules, grind (arith, common_steps)))
+    (make_seen c.in_ok-make.make, opened, c.in_ok-answer.ensures.made)
+
+pub returns-in_err-make-clause-answers : goal.returns-in_err-make-clause-answers
+returns-in_err-make-clause-answers g c =
+    let make = c.args.self.now in
+    let files = c.args.files.now in
+    let stopped = rw (c.deref.ensures.value, c.in_ok-layers.ensures, c.deref-2.ensures.value, c.deref-3.ensures.value) at c.in_err-make.ensures in
+    let p = err_from_is_err_and c.from_residual-in_err-make.result c.from_residual-in_err-make.ensures.1 in
+    rw (p.1, p.2) (
+    carried-looked_at c.args.watch.is_terminal make.omit make.names make.max_nodes g.O.Write.contents g.E.Write.contents c.args.out.now c.args.out.now c.args.errors.now c.args.errors.now
+    (make_opened make.locales (layers_held files.layers) files.box_json.items (strings_held files.words)) (Err c.in_err-make.field-0.0)
+    (λ told. inl (stopped told))
+    )
 
 pub returns-in_err-answer-clause-answers : goal.returns-in_err-answer-clause-answers
 returns-in_err-answer-clause-answers g c =
     let make = c.args.self.now in
     let files = c.args.files.now in
     let fault = c.in_err-answer.field-0.0 in
+    let opened = rw (c.deref.ensures.value, c.in_ok-layers.ensures, c.deref-2.ensures.value, c.deref-3.ensures.value) at c.in_ok-make.ensures in
     let p = err_from_is_err_and c.from_residual-in_err-answer.result c.from_residual-in_err-answer.ensures.1 in
     rw (p.1, p.2) (
     carried-looked_at c.args.watch.is_terminal make.omit make.names make.max_nodes g.O.Write.contents g.E.Write.contents c.args.out.now c.answer.new.out c.args.errors.now c.answer.new.errors
     (make_opened make.locales (layers_held files.layers) files.box_json.items (strings_held files.words)) (Err (Tool fault))
-    (λ told. inr (make_seen c.in_ok-make.make, fault, first_of (search rules, grind (arith, common_steps)), refl, c.in_err-answer.ensures.made))
+    (λ told. inr (make_seen c.in_ok-make.make, fault, opened, refl, c.in_err-answer.ensures.made))
     )
 
 pub returns-in_err-answer-clause-unwritten : goal.returns-in_err-answer-clause-unwritten
