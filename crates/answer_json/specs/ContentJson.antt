@@ -5,7 +5,6 @@ use Rattle.notation.specs.declared.form.Form.TheVariants.{Android}
 use Rattle.names.specs.Label.{LabelOf}
 use Rattle.names.specs.LabelText.{label_text}
 use Rattle.names.specs.Packages.{PackageNameOf}
-use Rattle.answer_text.specs.declared.content.BrokenString.{BrokenString}
 use Rattle.answer_text.specs.Content.{ValueContentOf, StringOf, GarbledOf, BrokenOf, ReferenceOf, AttributeOf, OtherOf, RowKeyOf, PlaceOf, QuantityOf, CalledOf, RowContentOf, ContentOf, ValueOf, BagOf, AbsentOf, TooManyReferencesOf, TooManyParentsOf}
 use Rattle.answer_text.specs.InForm.{value_in, key_in, row_value_in}
 use Rattle.answer_text.specs.ValueText.{broken_text}
@@ -13,17 +12,17 @@ use Rattle.answer_json.specs.TextJson.{text_data, number_data, list_data}
 
 -- ---- names
 
--- a name, as it is asked for
+-- what a resource is called, as the text has it: its name, or its id
 abbrev pub label_data : List PackageNameOf → LabelOf → Data
 label_data packages label = text_data (label_text packages label)
 
--- the object of one member, a name
-abbrev pub called : List ℕ → List PackageNameOf → LabelOf → Data
-called name packages label = object (member name (label_data packages label) no_members)
+-- why there is neither a value nor a bag: an object of this member alone, with what the resource is called
+abbrev pub reason_data : List ℕ → List PackageNameOf → LabelOf → Data
+reason_data reason packages label = object (member reason (label_data packages label) no_members)
 
 -- ---- values
 
--- what a value says, and this as it stands in XML
+-- what a value says, and beside it the value as it stands in XML
 unfoldable pub value_data : List PackageNameOf → ValueContentOf → Data → Data
 value_data packages (StringOf text) xml = object (member (codes "string") (string text) (member (codes "xml") xml no_members))
 value_data packages (GarbledOf text) xml = object (member (codes "garbled") (text_data text) (member (codes "xml") xml no_members))
@@ -54,6 +53,6 @@ row_data packages row = object (member (codes "key") (key_data packages row.key)
 unfoldable pub content_data : List PackageNameOf → ContentOf → Data
 content_data packages (ValueOf value) = object (member (codes "value") (value_data packages value (text_data (value_in Android packages value))) no_members)
 content_data packages (BagOf rows) = object (member (codes "bag") (list_data (map (row_data packages) rows)) no_members)
-content_data packages (AbsentOf label) = called (codes "absent") packages label
-content_data packages (TooManyReferencesOf label) = called (codes "tooManyReferences") packages label
-content_data packages (TooManyParentsOf label) = called (codes "tooManyParents") packages label
+content_data packages (AbsentOf label) = reason_data (codes "absent") packages label
+content_data packages (TooManyReferencesOf label) = reason_data (codes "tooManyReferences") packages label
+content_data packages (TooManyParentsOf label) = reason_data (codes "tooManyParents") packages label

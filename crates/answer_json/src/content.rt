@@ -8,7 +8,7 @@ ghost use Rattle.answer_text.specs.ContentSeen.{value_content_of, row_key_of, ro
 ghost use Rattle.answer_text.specs.InForm.{value_in, key_in};
 ghost use Rattle.answer_text.specs.ValueText.{value_content_text};
 ghost use Rattle.answer_json.specs.TextJson.{text_data, number_data};
-ghost use Rattle.answer_json.specs.ContentJson.{label_data, called, value_data, key_data, row_value_data, row_data, content_data};
+ghost use Rattle.answer_json.specs.ContentJson.{label_data, reason_data, value_data, key_data, row_value_data, row_data, content_data};
 ghost use Rattle.notation.specs.declared.form.Form.TheVariants.{Android};
 
 use crate::text::text_json;
@@ -22,7 +22,7 @@ use std::alloc::{AllocError, Global};
 
 // ---- names
 
-/// A name, as it is asked for.
+/// What a resource is called, as the text has it: its name, or its id.
 pub fn label_json(
     alloc: Global,
     packages: &PackageNames<'_>,
@@ -89,7 +89,7 @@ fn other_json(alloc: Global, kind: u8, word: u32, xml: Value) -> Result<Value, A
     json!(in alloc; {"kind": kind, "word": word, "xml": xml})
 }
 
-// A value as `--raw` prints it.
+// What `--raw` prints of it: of a broken string its fault and its index.
 fn raw_json(
     alloc: Global,
     packages: &PackageNames<'_>,
@@ -100,6 +100,7 @@ fn raw_json(
     let mut text = Vec::new(alloc);
     match write_value_content(packages, value, &mut text) {
         Ok(()) => text_json(alloc, &text),
+        // To a `Vec` only a want of memory is a fault.
         Err(_) => Err(AllocError),
     }
 }
@@ -115,6 +116,7 @@ fn xml_json(
     let mut text = Vec::new(alloc);
     match write_value_in(Form::Android, packages, value, &mut text) {
         Ok(()) => text_json(alloc, &text),
+        // To a `Vec` only a want of memory is a fault.
         Err(_) => Err(AllocError),
     }
 }
@@ -146,6 +148,7 @@ fn key_text_json(
     let mut text = Vec::new(alloc);
     match write_key_in(Form::Android, packages, key, &mut text) {
         Ok(()) => text_json(alloc, &text),
+        // To a `Vec` only a want of memory is a fault.
         Err(_) => Err(AllocError),
     }
 }
@@ -165,11 +168,12 @@ pub fn row_value_json(
             let xml = text_json(alloc, &text)?;
             value_with(alloc, packages, value, xml)
         }
+        // To a `Vec` only a want of memory is a fault.
         Err(_) => Err(AllocError),
     }
 }
 
-/// A row of a bag: its key, and its value.
+// A row of a bag: its key, and its value.
 #[tactic(auto, unfolding(crate::specs::ContentJson::row_data))]
 fn row_json(
     alloc: Global,
@@ -223,23 +227,28 @@ pub fn content_json(
             let rows = Value::Array(rows_json(alloc, packages, rows)?);
             json!(in alloc; {"bag": rows})
         }
-        Content::Absent(label) => called(alloc, "absent", packages, label),
-        Content::TooManyReferences(label) => called(alloc, "tooManyReferences", packages, label),
-        Content::TooManyParents(label) => called(alloc, "tooManyParents", packages, label),
+        Content::Absent(label) => reason_json(alloc, "absent", packages, label),
+        Content::TooManyReferences(label) => reason_json(
+            alloc,
+            "tooManyReferences",
+            packages,
+            label,
+        ),
+        Content::TooManyParents(label) => reason_json(alloc, "tooManyParents", packages, label),
     }
 }
 
-// The object of one member, a name.
-fn called(
+// Why there is neither a value nor a bag.
+fn reason_json(
     alloc: Global,
-    word: &str,
+    reason: &str,
     packages: &PackageNames<'_>,
     label: &Label<'_>,
 ) -> Result<Value, AllocError>
-    ensures { IfOk result (λ json. view json ≡ called word.now packages.now (label_of label.now)) }
+    ensures { IfOk result (λ json. view json ≡ reason_data reason.now packages.now (label_of label.now)) }
 {
     let name = label_json(alloc, packages, label)?;
     let mut members = Map::new(alloc);
-    put(&mut members, alloc, word, name)?;
+    put(&mut members, alloc, reason, name)?;
     Ok(Value::Object(members))
 }

@@ -1,7 +1,6 @@
 //! The devices of a part of a box, as a JSON value.
 
 ghost use Rattle.std.specs.Prelude.{◌≡◌, map, fold, IfOk, OnOk};
-ghost use Rattle.serde_json.specs.Data.{no_members};
 ghost use Rattle.serde_json.specs.View.{view, members_view};
 ghost use Rattle.config_box.specs.BoxSeen.{values_seen};
 ghost use Rattle.config_box.specs.box_answers.NumberSet.{locale_numbers};

@@ -34,19 +34,17 @@ on_words = codes " on "
 abbrev pub device_words : List SetOf → List SetOf → List ℕ
 device_words whole part = drop (length on_words) (devices_in Android whole part)
 
--- the devices as a box has them, and in words
-abbrev pub on_devices : List SetOf → List SetOf → Members
-on_devices whole part = member (codes "devices") (devices_data whole part) (member (codes "on") (text_data (device_words whole part)) no_members)
+-- the devices as a box has them, and in words, before other members
+abbrev pub on_devices : List SetOf → List SetOf → Members → Members
+on_devices whole part others = member (codes "devices") (devices_data whole part) (member (codes "on") (text_data (device_words whole part)) others)
 
 -- ---- all of it
 
--- ..
+-- the rows in which two bags differ, what is said before and after, or all that is said beside nothing; and on which devices
 unfoldable pub change_data : List PackageNameOf → DifferenceOf → List SetOf → List SetOf → Data
 change_data packages (RowsDiffer rows) whole part =
-    object (member (codes "devices") (devices_data whole part)
-    (member (codes "on") (text_data (device_words whole part))
-    (member (codes "rows") (list_data (map (row_change_data packages) rows)) no_members)))
+    object (on_devices whole part (member (codes "rows") (list_data (map (row_change_data packages) rows)) no_members))
 change_data packages (ContentsDiffer before after) whole part =
     object (member (codes "after") (content_data packages after)
-    (member (codes "before") (content_data packages before) (on_devices whole part)))
-change_data packages (FromNothing content) whole part = object (member (codes "content") (content_data packages content) (on_devices whole part))
+    (member (codes "before") (content_data packages before) (on_devices whole part no_members)))
+change_data packages (FromNothing content) whole part = object (member (codes "content") (content_data packages content) (on_devices whole part no_members))

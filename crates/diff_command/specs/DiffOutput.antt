@@ -17,6 +17,7 @@ abbrev pub node_limit_line : LineForm → List ℕ
 node_limit_line (Text form) = codes "node limit" ++ 10 ∷ []
 node_limit_line Json = node_limit_json
 
+-- the lines of what is told, in a form; a text's values and devices are in its blocks already
 unfoldable pub lines_of_told : LineForm → LocaleRule → StacksOf → List PairOf → List ToldOf → List ℕ
 lines_of_told (Text form) rule stacks pairs told = diff_lines rule stacks pairs told
 lines_of_told Json rule stacks pairs told = diff_json rule stacks pairs told

@@ -19,49 +19,50 @@ use Rattle.diff_command.specs.Telling.{ToldOf, RemovedTold, AddedTold, SameTold,
 abbrev pub name_json : List PackageNameOf → PairOf → List ℕ
 name_json packages pair = compact_text (label_data packages pair.label)
 
--- `{"line":KIND,"name":NAME}`
+-- `{"line":"KIND","name":NAME}`, where NAME is JSON
 unfoldable pub name_line : List ℕ → List ℕ → List ℕ
 name_line kind name = codes "{\"line\":\"" ++ kind ++ codes "\",\"name\":" ++ name ++ codes "}" ++ 10 ∷ []
 
--- `{"line":KIND,"name":NAME,"says":SAID}`
+-- `{"line":"KIND","name":NAME,"says":SAID}`, where NAME and SAID are JSON
 unfoldable pub said_line : List ℕ → List ℕ → List ℕ → List ℕ
 said_line kind name said = codes "{\"line\":\"" ++ kind ++ codes "\",\"name\":" ++ name ++ codes ",\"says\":" ++ said ++ codes "}" ++ 10 ∷ []
 
--- the lines of a name: a line of this kind for each JSON of what it says
-unfoldable pub told_json : List ℕ → List ℕ → ToldOf → List ℕ
-told_json kind name RemovedTold = name_line (codes "removed") name
-told_json kind name AddedTold = name_line (codes "added") name
-told_json kind name SameTold = []
-told_json kind name (ChangedTold blocks) = flat_map (said_line kind name) blocks
+-- the lines of a name: `removed`, `added`, or one of this kind for each JSON of what it says; none where it says the same
+unfoldable pub lines_of_name : List ℕ → List ℕ → ToldOf → List ℕ
+lines_of_name kind name RemovedTold = name_line (codes "removed") name
+lines_of_name kind name AddedTold = name_line (codes "added") name
+lines_of_name kind name SameTold = []
+lines_of_name kind name (ChangedTold blocks) = flat_map (said_line kind name) blocks
 
-abbrev pub named_json : List ℕ → List ℕ × ToldOf → List ℕ
-named_json kind one = told_json kind one.0 one.1
+-- the same of a name, with what is told of it
+abbrev pub lines_of_pair : List ℕ → List ℕ × ToldOf → List ℕ
+lines_of_pair kind one = lines_of_name kind one.0 one.1
 
-unfoldable pub names_json : List ℕ → List (List ℕ) → List ToldOf → List ℕ
-names_json kind names told = flat_map (named_json kind) (zip names told)
+unfoldable pub lines_of_names : List ℕ → List (List ℕ) → List ToldOf → List ℕ
+lines_of_names kind names told = flat_map (lines_of_pair kind) (zip names told)
 
 -- ---- counts
 
--- `{"line":KIND,"new":NEW,"old":OLD}`, where one of the two is not 0
+-- `{"line":"KIND","new":NEW,"old":OLD}`, unless both are 0
 unfoldable pub counts_json : List ℕ → ℕ → ℕ → List ℕ
 counts_json kind old new =
     if old + new == 0 then []
     else codes "{\"line\":\"" ++ kind ++ codes "\",\"new\":" ++ decimal new ++ codes ",\"old\":" ++ decimal old ++ codes "}" ++ 10 ∷ []
 
--- `{"count":COUNT,"line":KIND}`
+-- `{"count":COUNT,"line":"KIND"}`
 unfoldable pub count_json : List ℕ → ℕ → List ℕ
 count_json kind count = codes "{\"count\":" ++ decimal count ++ codes ",\"line\":\"" ++ kind ++ codes "\"}" ++ 10 ∷ []
 
 -- the same, unless it is 0
-unfoldable pub some_json : List ℕ → ℕ → List ℕ
-some_json kind count = if count == 0 then [] else count_json kind count
+unfoldable pub count_json_unless_0 : List ℕ → ℕ → List ℕ
+count_json_unless_0 kind count = if count == 0 then [] else count_json kind count
 
 -- ---- all lines
 
 -- of two stacks, as `diff` prints them
 unfoldable pub diff_json : LocaleRule → StacksOf → List PairOf → List ToldOf → List ℕ
 diff_json rule stacks pairs told =
-    names_json (codes "changed") (map (name_json stacks.packages) pairs) told
+    lines_of_names (codes "changed") (map (name_json stacks.packages) pairs) told
     ++ counts_json (codes "shared-names") (length (shared_ids stacks.old)) (length (shared_ids stacks.new))
     ++ counts_json (codes "set-aside") (rows_set_aside rule stacks.old) (rows_set_aside rule stacks.new)
     ++ count_json (codes "same") (same_count told)
@@ -69,9 +70,9 @@ diff_json rule stacks pairs told =
 -- of one stack, as `values` prints them
 unfoldable pub values_json : LocaleRule → StacksOf → List PairOf → List ToldOf → List ℕ
 values_json rule stacks pairs told =
-    names_json (codes "value") (map (name_json stacks.packages) pairs) told
-    ++ some_json (codes "shared-names") (length (shared_ids stacks.new))
-    ++ some_json (codes "set-aside") (rows_set_aside rule stacks.new)
+    lines_of_names (codes "value") (map (name_json stacks.packages) pairs) told
+    ++ count_json_unless_0 (codes "shared-names") (length (shared_ids stacks.new))
+    ++ count_json_unless_0 (codes "set-aside") (rows_set_aside rule stacks.new)
     ++ count_json (codes "resources") (length pairs)
 
 -- where there are more nodes than the limit

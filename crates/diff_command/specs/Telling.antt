@@ -18,7 +18,7 @@ use Rattle.change_text.specs.ChangeBlock.{change_block}
 
 -- ---- what is told of a label, behind its name
 
--- that the old stack alone has it, or the new one alone; that it says the same in both; or blocks of lines, or JSON
+-- that the old stack alone has it, or the new one alone; that it says the same in both; or the blocks of its changes, each of lines or a JSON object
 pub data ToldOf : Type 0 where
   RemovedTold : ToldOf
   AddedTold : ToldOf

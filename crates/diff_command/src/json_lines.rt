@@ -5,7 +5,7 @@ ghost use Rattle.std.specs.List.{flat_map};
 ghost use Rattle.contract_words.specs.Writes.{Writes};
 ghost use Rattle.stack_diff.specs.names.Pairs.{pair_of};
 ghost use Rattle.stack_diff.specs.Stacks.{stacks_of};
-ghost use Rattle.diff_command.specs.JsonLines.{name_json, name_line, said_line, told_json, names_json, counts_json, count_json, some_json, diff_json, values_json};
+ghost use Rattle.diff_command.specs.JsonLines.{name_json, name_line, said_line, lines_of_name, lines_of_names, counts_json, count_json, count_json_unless_0, diff_json, values_json};
 ghost use Rattle.diff_command.specs.Judged.{told_of};
 
 use crate::lines::{same_count, shared_count};
@@ -18,7 +18,7 @@ use std::io::{self, Write};
 
 // ---- two stacks
 
-/// Writes the lines of labels, of which this is told, and those of the stacks. These are the names of the labels.
+/// Writes the lines of labels, whose names as JSON are these and of which this is told, and those of the stacks.
 #[tactic(auto, unfolding(crate::specs::JsonLines::diff_json))]
 pub(crate) fn write_diff_json<W: Write + Drop>(
     rule: LocaleRule,
@@ -35,14 +35,17 @@ pub(crate) fn write_diff_json<W: Write + Drop>(
     write_names(b"changed", names, told, out)?;
     let (before, after) = (shared_count(old) as u128, shared_count(new) as u128);
     write_counts(b"shared-names", before, after, out)?;
-    let before = rows_set_aside(old.stack(), rule);
-    write_counts(b"set-aside", before, rows_set_aside(new.stack(), rule), out)?;
+    let (before, after) = (
+        rows_set_aside(old.stack(), rule),
+        rows_set_aside(new.stack(), rule),
+    );
+    write_counts(b"set-aside", before, after, out)?;
     write_count(b"same", same_count(told) as u128, out)
 }
 
 // ---- one stack
 
-/// Writes what is told of labels, and the lines of their stack, which is the new one.
+/// Writes what is told of labels, whose names as JSON are these, and the lines of their stack, which is the new one.
 #[tactic(auto, unfolding(crate::specs::JsonLines::values_json))]
 pub(crate) fn write_values_json<W: Write + Drop>(
     rule: LocaleRule,
@@ -57,8 +60,8 @@ pub(crate) fn write_values_json<W: Write + Drop>(
 {
     let stack = stacks.new_stack();
     write_names(b"value", names, told, out)?;
-    write_some(b"shared-names", shared_count(stack) as u128, out)?;
-    write_some(b"set-aside", rows_set_aside(stack.stack(), rule), out)?;
+    write_count_unless_0(b"shared-names", shared_count(stack) as u128, out)?;
+    write_count_unless_0(b"set-aside", rows_set_aside(stack.stack(), rule), out)?;
     write_count(b"resources", pairs.len() as u128, out)
 }
 
@@ -92,14 +95,14 @@ fn name_json(
     Ok(text)
 }
 
-#[tactic(auto, unfolding(crate::specs::JsonLines::names_json), using(contract_words::proofs::TextSteps::puts))]
+#[tactic(auto, unfolding(crate::specs::JsonLines::lines_of_names), using(contract_words::proofs::TextSteps::puts))]
 fn write_names<W: Write + Drop>(
     kind: &[u8],
     names: &[Vec<u8>],
     told: &[Told],
     out: &mut W,
 ) -> io::Result<()>
-    ensures { Writes W.contents out.old out.new result (names_json kind.now (map (λ name. name.items) names.now) (map told_of told.now)) }
+    ensures { Writes W.contents out.old out.new result (lines_of_names kind.now (map (λ name. name.items) names.now) (map told_of told.now)) }
 {
     for (name, one) in names.iter().zip(told) {
         write_told(kind, name, one, out)?;
@@ -107,9 +110,9 @@ fn write_names<W: Write + Drop>(
     Ok(())
 }
 
-#[tactic(auto, unfolding(crate::specs::JsonLines::told_json))]
+#[tactic(auto, unfolding(crate::specs::JsonLines::lines_of_name))]
 fn write_told<W: Write + Drop>(kind: &[u8], name: &[u8], told: &Told, out: &mut W) -> io::Result<()>
-    ensures { Writes W.contents out.old out.new result (told_json kind.now name.now (told_of told.now)) }
+    ensures { Writes W.contents out.old out.new result (lines_of_name kind.now name.now (told_of told.now)) }
 {
     match told {
         Told::Removed => write_name(b"removed", name, out),
@@ -123,7 +126,7 @@ fn write_told<W: Write + Drop>(kind: &[u8], name: &[u8], told: &Told, out: &mut 
 fn write_name<W: Write + Drop>(kind: &[u8], name: &[u8], out: &mut W) -> io::Result<()>
     ensures { Writes W.contents out.old out.new result (name_line kind.now name.now) }
 {
-    write_kind(kind, out)?;
+    write_up_to_name(kind, out)?;
     out.write_all(name)?;
     out.write_all(b"}\n")
 }
@@ -147,15 +150,15 @@ fn write_all_said<W: Write + Drop>(
 fn write_said<W: Write + Drop>(kind: &[u8], name: &[u8], said: &[u8], out: &mut W) -> io::Result<()>
     ensures { Writes W.contents out.old out.new result (said_line kind.now name.now said.now) }
 {
-    write_kind(kind, out)?;
+    write_up_to_name(kind, out)?;
     out.write_all(name)?;
     out.write_all(b",\"says\":")?;
     out.write_all(said)?;
     out.write_all(b"}\n")
 }
 
-// `{"line":KIND,"name":`
-fn write_kind<W: Write + Drop>(kind: &[u8], out: &mut W) -> io::Result<()>
+// `{"line":"KIND","name":`
+fn write_up_to_name<W: Write + Drop>(kind: &[u8], out: &mut W) -> io::Result<()>
     ensures { Writes W.contents out.old out.new result (codes "{\"line\":\"" ++ kind.now ++ codes "\",\"name\":") }
 {
     out.write_all(b"{\"line\":\"")?;
@@ -179,9 +182,9 @@ fn write_counts<W: Write + Drop>(kind: &[u8], old: u128, new: u128, out: &mut W)
 }
 
 // Writes a count, if it is not 0.
-#[tactic(auto, unfolding(crate::specs::JsonLines::some_json))]
-fn write_some<W: Write + Drop>(kind: &[u8], count: u128, out: &mut W) -> io::Result<()>
-    ensures { Writes W.contents out.old out.new result (some_json kind.now count) }
+#[tactic(auto, unfolding(crate::specs::JsonLines::count_json_unless_0))]
+fn write_count_unless_0<W: Write + Drop>(kind: &[u8], count: u128, out: &mut W) -> io::Result<()>
+    ensures { Writes W.contents out.old out.new result (count_json_unless_0 kind.now count) }
 {
     if count == 0 {
         return Ok(());

@@ -2,7 +2,7 @@
 //! compared with nothing; and `unused`, which rows no device loads.
 //!
 //! For the program: `NamedDiff::diff` prints exactly the lines of what becomes of some labels, or `node limit`, and is done where
-//! nothing differs. `Diff::answer` reads the files that its words name, and prints those of the labels that
+//! nothing differs. With `LineForm::Json` each line is a JSON object. `Diff::answer` reads the files that its words name, and prints those of the labels that
 //! they ask for; where a file is not read, has a fault, or a name is not there, it stops and prints nothing.
 //!
 //! ```text
