@@ -1,5 +1,5 @@
 use Rattle.std.proofs.Common.{◌≡◌, ℕ, ◌+◌, ◌<◌, List, drop, get_or, length, sym, ap, ◌∙◌, arith}
-use Rattle.std.proofs.lemmas.List.{drop_more}
+use Rattle.std.proofs.lemmas.List.{drop_all, drop_more}
 use Rattle.clap.specs.Simple.{App, app_of, with_subcommand}
 use Rattle.restool.specs.declared.command_line.Usage.{Usage}
 use Rattle.restool.specs.ArgumentsSeen.{command_seen, with_commands}
@@ -18,3 +18,8 @@ loop-usage-preserved c = record {
       (next_command (app_of c.loop-usage.program) c.loop-usage.usage-index c.args.usages.now _ (omega arith)
       ∙ c.loop-usage.invariant.whole);
 }
+
+pub returns-clause-app : goal.returns-clause-app
+returns-clause-app c =
+    sym (ap (with_commands (app_of c.loop-usage.program)) (drop_all c.loop-usage.usage-index c.args.usages.now c.loop-usage-test.false))
+    ∙ c.loop-usage.invariant.whole
