@@ -1,5 +1,5 @@
 -- What a command answers: of files that are not read, where what it prints names the paths of these, and of what is read.
-use Rattle.std.proofs.Common.{◌≡◌, ◌≢◌, ℕ, List, Option, Some, None, IfSome, Result, Ok, Err, refl, ap, inl, inr}
+use Rattle.std.proofs.Common.{◌≡◌, ◌≢◌, ℕ, List, Option, Some, None, IfSome, Result, Ok, Err, MatchResult, refl, sym, ap, subst, inl, inr}
 use Rattle.contract_words.specs.Faults.{◌>>=◌}
 use Rattle.command_base.specs.declared.fault.ToolFault.{ToolFault}
 use Rattle.command_base.specs.declared.fault.ToolFault.TheVariants.{OutOfMemory, Write}
@@ -10,7 +10,7 @@ use Rattle.command_base.specs.Output.{Output, Prints}
 use Rattle.table_commands.specs.MapOutput.{MapOutput, PrintsBoth}
 use Rattle.command_base.specs.Stop.{StopOf, stop_of, tool}
 use Rattle.command_base.specs.Inputs.{Places}
-use Rattle.command_base.specs.CarriesOut.{CarriesOut}
+use Rattle.command_base.specs.CarriesOut.{CarriesOut, IsKept}
 
 pub stops_unread : {X Y : Type 0} (Command : Result Y StopOf → X → Result Status ToolFault → Type 0) (f : Y → Result X StopOf) (known : Option Places)
     (read : Places → Result Y StopOf) (stop : Stop)
@@ -44,3 +44,17 @@ pub both_kept_at_fault : {W V : Type 0} (contents : W → Option (List ℕ)) (sa
 both_kept_at_fault contents says old new before after OutOfMemory meant printed told = printed
 both_kept_at_fault contents says old new before after Write meant printed told = absurd (told refl)
 both_kept_at_fault contents says old new before after fault meant printed told = (printed.1, printed.2)
+
+-- ---- by what the command did
+
+pub carried_out : {X : Type 0} (Command : X → Result Status ToolFault → Type 0) (meant : Result X StopOf) (held : X) (done : Result Status ToolFault) (result : Result Status Stop)
+    → meant ≡ Ok held → Command held done → MatchResult done (λ status. result ≡ Ok status) (λ fault. result ≡ Err (Tool fault)) → CarriesOut Command meant result
+carried_out {X} Command meant held (Ok status) result is put same = subst (λ (r : Result Status Stop). CarriesOut Command meant r) (sym same) (held, is, put)
+carried_out {X} Command meant held (Err fault) result is put same =
+    subst (λ (r : Result Status Stop). CarriesOut Command meant r) (sym same) (λ told. inr (held, fault, is, refl, put))
+
+pub kept_by_done : {W : Type 0} (contents : W → Option (List ℕ)) (old new : W) (meant : Result Output ToolFault) (done : Result Status ToolFault) (result : Result Status Stop)
+    → Prints contents old new done meant → MatchResult done (λ status. result ≡ Ok status) (λ fault. result ≡ Err (Tool fault)) → IsKept old new result
+kept_by_done contents old new meant (Ok status) result printed same = subst (λ (r : Result Status Stop). IsKept old new r) (sym same) tt
+kept_by_done contents old new meant (Err fault) result printed same =
+    subst (λ (r : Result Status Stop). IsKept old new r) (sym same) (kept_at_fault contents old new fault meant printed)

@@ -13,6 +13,7 @@ ghost use Rattle.table_commands.specs.OpenedSeen.{opened_of};
 ghost use Rattle.table_commands.specs.AttrOutput.{attribute_line, attr_answer, attr_in_notation, attr_printed, attr_output, attr_seen, attr_opened, PrintsAttr, PrintsAttrFiles};
 ghost use Rattle.command_base.specs.CarriesOut.{IsKept};
 
+use crate::answered::answered;
 use crate::end_status::status_of_end;
 use crate::no_bag::print_no_bag;
 use crate::opened::Opened;
@@ -79,14 +80,14 @@ impl<'a> Attr<'a> {
             self.attr,
             &files.words,
         )?;
-        Ok(asked.print(
+        answered(asked.print(
             alloc,
             self.android,
             self.names,
             self.force,
             files.layers.paths(),
             out,
-        )?)
+        ))
     }
 }
 

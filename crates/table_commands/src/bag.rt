@@ -11,6 +11,7 @@ ghost use Rattle.table_commands.specs.OpenedSeen.{opened_of, id_seen};
 ghost use Rattle.table_commands.specs.BagOutput.{id_and_layer, bag_row_line, bag_answer, bag_in_notation, bag_printed, bag_output, PrintsBag, PrintsBagFiles};
 ghost use Rattle.command_base.specs.CarriesOut.{IsKept};
 
+use crate::answered::answered;
 use crate::no_bag::print_no_bag;
 use crate::opened::{OpenId, Opened};
 use crate::text::print_text;
@@ -70,7 +71,7 @@ impl<'a> Bag<'a> {
             self.locales,
             self.resource,
         )?;
-        Ok(asked.bag(alloc, self, files.layers.paths(), out)?)
+        answered(asked.bag(alloc, self, files.layers.paths(), out))
     }
 }
 

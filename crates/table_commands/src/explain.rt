@@ -9,6 +9,7 @@ ghost use Rattle.table_commands.specs.OpenedSeen.{opened_of, id_seen};
 ghost use Rattle.table_commands.specs.ExplainOutput.{explain_answer, explain_in_notation, explain_printed, explain_output, Explains, ExplainsFiles};
 ghost use Rattle.command_base.specs.CarriesOut.{IsKept};
 
+use crate::answered::answered;
 use crate::end_status::status_of_end;
 use crate::opened::{OpenId, Opened};
 use answer_notation::{Naming, explain_text};
@@ -69,7 +70,7 @@ impl<'a> Explain<'a> {
             self.locales,
             self.resource,
         )?;
-        Ok(asked.explain(alloc, self, files.layers.paths(), out)?)
+        answered(asked.explain(alloc, self, files.layers.paths(), out))
     }
 }
 

@@ -34,6 +34,7 @@
 //! ```
 #![tactic(auto)]
 
+mod answered;
 mod attr;
 mod bag;
 mod device;

@@ -18,6 +18,7 @@ ghost use Rattle.table_commands.specs.OpenedSeen.{opened_of};
 ghost use Rattle.table_commands.specs.QueryOutput.{end_for, is_unresolved_for, line_of, query_status, query_text, query_answer, query_notation, query_printed, query_output, query_seen, query_opened, Queries, QueriesFiles};
 ghost use Rattle.command_base.specs.CarriesOut.{IsKept};
 
+use crate::answered::answered;
 use crate::end_status::is_unresolved;
 use crate::opened::Opened;
 use answer_notation::{Naming, ends_text};
@@ -78,7 +79,7 @@ impl<'a> Query<'a> {
             self.locales,
             &files.words,
         )?;
-        Ok(asked.print(alloc, self.android, self.names, files.layers.paths(), out)?)
+        answered(asked.print(alloc, self.android, self.names, files.layers.paths(), out))
     }
 }
 

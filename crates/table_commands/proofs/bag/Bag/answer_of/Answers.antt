@@ -1,21 +1,32 @@
-use Rattle.std.proofs.Common.{inl}
+use Rattle.std.proofs.Common.{ℕ, List, Result, Ok, inl}
 use Rattle.std.proofs.lemmas.Result.{err_from_is_err_and}
+use Rattle.command_base.specs.DeviceFiles.{paths_read}
+use Rattle.command_base.specs.FilesSeen.{device_held}
+use Rattle.command_base.specs.Output.{Prints}
+use Rattle.command_base.specs.declared.fault.ToolFault.{ToolFault}
+use Rattle.command_base.specs.declared.status.Status.{Status}
+use Rattle.table_commands.specs.BagOutput.{bag_printed}
+use Rattle.table_commands.specs.Opened.{OpenIdOf}
 use Rattle.table_commands.specs.OpenedSeen.{id_seen}
-use Rattle.table_commands.proofs.Answering.{kept_at_fault}
+use Rattle.table_commands.proofs.Answering.{carried_out, kept_by_done}
 use Rattle.table_commands.proofs.bag.Bag.answer_of.Goals as goal
 
-pub returns-in_err-bag-clause-unwritten : goal.returns-in_err-bag-clause-unwritten
-returns-in_err-bag-clause-unwritten g c =
-    let p = err_from_is_err_and c.from_residual-in_err-bag.result c.from_residual-in_err-bag.ensures.1 in
-    rw (p.1, p.2) (kept_at_fault g.W.Write.contents c.args.out.now c.bag.new.out c.in_err-bag.field-0.0 _ c.in_err-bag.ensures)
+pub returns-clause-answers : goal.returns-clause-answers
+returns-clause-answers g c =
+    let bag = c.args.self.now in
+    let paths : List (List ℕ) = paths_read (Ok (device_held c.args.files.now)) in
+    let meant = c.in_ok-asked.ensures in
+    let printed = rw c.paths.ensures at c.bag.ensures in
+    carried_out
+    (λ (asked : OpenIdOf) (done : Result Status ToolFault). Prints g.W.Write.contents c.args.out.now c.bag.new.out done (Ok (bag_printed bag paths asked)))
+    _ (id_seen c.in_ok-asked.asked) c.bag.result c.answered.result meant printed c.answered.ensures
+
+pub returns-clause-unwritten : goal.returns-clause-unwritten
+returns-clause-unwritten g c =
+    kept_by_done g.W.Write.contents c.args.out.now c.bag.new.out _ c.bag.result c.answered.result c.bag.ensures c.answered.ensures
 
 pub returns-in_err-asked-clause-answers : goal.returns-in_err-asked-clause-answers
 returns-in_err-asked-clause-answers g c =
     let stopped = c.in_err-asked.ensures in
     let p = err_from_is_err_and c.from_residual.result c.from_residual.ensures.1 in
     rw (p.1, p.2) (λ told. inl (stopped told))
-
-pub returns-clause-answers : goal.returns-clause-answers
-returns-clause-answers g c =
-    let printed = rw c.paths.ensures at c.in_ok-bag.ensures in
-    (id_seen c.in_ok-asked.asked, c.in_ok-asked.ensures, printed)

@@ -1,21 +1,32 @@
-use Rattle.std.proofs.Common.{inl}
+use Rattle.std.proofs.Common.{ℕ, List, Result, Ok, inl}
 use Rattle.std.proofs.lemmas.Result.{err_from_is_err_and}
+use Rattle.command_base.specs.DeviceFiles.{paths_read}
+use Rattle.command_base.specs.FilesSeen.{device_held}
+use Rattle.command_base.specs.Output.{Prints}
+use Rattle.command_base.specs.declared.fault.ToolFault.{ToolFault}
+use Rattle.command_base.specs.declared.status.Status.{Status}
+use Rattle.table_commands.specs.ExplainOutput.{explain_printed}
+use Rattle.table_commands.specs.Opened.{OpenIdOf}
 use Rattle.table_commands.specs.OpenedSeen.{id_seen}
-use Rattle.table_commands.proofs.Answering.{kept_at_fault}
+use Rattle.table_commands.proofs.Answering.{carried_out, kept_by_done}
 use Rattle.table_commands.proofs.explain.Explain.answer_of.Goals as goal
 
-pub returns-in_err-explain-clause-unwritten : goal.returns-in_err-explain-clause-unwritten
-returns-in_err-explain-clause-unwritten g c =
-    let p = err_from_is_err_and c.from_residual-in_err-explain.result c.from_residual-in_err-explain.ensures.1 in
-    rw (p.1, p.2) (kept_at_fault g.W.Write.contents c.args.out.now c.explain.new.out c.in_err-explain.field-0.0 _ c.in_err-explain.ensures)
+pub returns-clause-answers : goal.returns-clause-answers
+returns-clause-answers g c =
+    let explain = c.args.self.now in
+    let paths : List (List ℕ) = paths_read (Ok (device_held c.args.files.now)) in
+    let meant = c.in_ok-asked.ensures in
+    let printed = rw c.paths.ensures at c.explain.ensures in
+    carried_out
+    (λ (asked : OpenIdOf) (done : Result Status ToolFault). Prints g.W.Write.contents c.args.out.now c.explain.new.out done (Ok (explain_printed explain paths asked)))
+    _ (id_seen c.in_ok-asked.asked) c.explain.result c.answered.result meant printed c.answered.ensures
+
+pub returns-clause-unwritten : goal.returns-clause-unwritten
+returns-clause-unwritten g c =
+    kept_by_done g.W.Write.contents c.args.out.now c.explain.new.out _ c.explain.result c.answered.result c.explain.ensures c.answered.ensures
 
 pub returns-in_err-asked-clause-answers : goal.returns-in_err-asked-clause-answers
 returns-in_err-asked-clause-answers g c =
     let stopped = c.in_err-asked.ensures in
     let p = err_from_is_err_and c.from_residual.result c.from_residual.ensures.1 in
     rw (p.1, p.2) (λ told. inl (stopped told))
-
-pub returns-clause-answers : goal.returns-clause-answers
-returns-clause-answers g c =
-    let printed = rw c.paths.ensures at c.in_ok-explain.ensures in
-    (id_seen c.in_ok-asked.asked, c.in_ok-asked.ensures, printed)

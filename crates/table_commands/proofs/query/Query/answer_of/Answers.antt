@@ -1,26 +1,27 @@
-use Rattle.std.proofs.Common.{inl, inr, refl}
+use Rattle.std.proofs.Common.{ℕ, List, Result, Ok, inl}
 use Rattle.std.proofs.lemmas.Result.{err_from_is_err_and}
-use Rattle.table_commands.specs.QueryOutput.{query_seen}
-use Rattle.table_commands.proofs.Answering.{kept_at_fault}
+use Rattle.command_base.specs.DeviceFiles.{paths_asked}
+use Rattle.command_base.specs.FilesSeen.{asked_held}
+use Rattle.command_base.specs.Output.{Prints}
+use Rattle.command_base.specs.declared.fault.ToolFault.{ToolFault}
+use Rattle.command_base.specs.declared.status.Status.{Status}
+use Rattle.table_commands.specs.QueryOutput.{OpenQueryOf, query_printed, query_seen}
+use Rattle.table_commands.proofs.Answering.{carried_out, kept_by_done}
 use Rattle.table_commands.proofs.query.Query.answer_of.Goals as goal
 
 pub returns-clause-answers : goal.returns-clause-answers
 returns-clause-answers g c =
+    let query = c.args.self.now in
+    let paths : List (List ℕ) = paths_asked (Ok (asked_held c.args.files.now)) in
     let meant = rw c.deref.ensures.value at c.in_ok-asked.ensures in
-    let printed = rw c.paths.ensures at c.in_ok-print.ensures in
-    (query_seen c.in_ok-asked.asked, meant, printed)
+    let printed = rw c.paths.ensures at c.print.ensures in
+    carried_out
+    (λ (asked : OpenQueryOf) (done : Result Status ToolFault). Prints g.W.Write.contents c.args.out.now c.print.new.out done (Ok (query_printed query.android query.names paths asked)))
+    _ (query_seen c.in_ok-asked.asked) c.print.result c.answered.result meant printed c.answered.ensures
 
-pub returns-in_err-print-clause-answers : goal.returns-in_err-print-clause-answers
-returns-in_err-print-clause-answers g c =
-    let meant = rw c.deref.ensures.value at c.in_ok-asked.ensures in
-    let printed = rw c.paths.ensures at c.in_err-print.ensures in
-    let p = err_from_is_err_and c.from_residual-in_err-print.result c.from_residual-in_err-print.ensures.1 in
-    rw (p.1, p.2) (λ told. inr (query_seen c.in_ok-asked.asked, c.in_err-print.field-0.0, meant, refl, printed))
-
-pub returns-in_err-print-clause-unwritten : goal.returns-in_err-print-clause-unwritten
-returns-in_err-print-clause-unwritten g c =
-    let p = err_from_is_err_and c.from_residual-in_err-print.result c.from_residual-in_err-print.ensures.1 in
-    rw (p.1, p.2) (kept_at_fault g.W.Write.contents c.args.out.now c.print.new.out c.in_err-print.field-0.0 _ c.in_err-print.ensures)
+pub returns-clause-unwritten : goal.returns-clause-unwritten
+returns-clause-unwritten g c =
+    kept_by_done g.W.Write.contents c.args.out.now c.print.new.out _ c.print.result c.answered.result c.print.ensures c.answered.ensures
 
 pub returns-in_err-asked-clause-answers : goal.returns-in_err-asked-clause-answers
 returns-in_err-asked-clause-answers g c =
