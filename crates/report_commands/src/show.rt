@@ -13,7 +13,7 @@ ghost use Rattle.report_commands.specs.OpenedSeen.{opened_trees};
 ghost use Rattle.command_base.specs.cert_tree.Certificate.{goal_of};
 ghost use Rattle.report_commands.specs.TreeText.{certificate_text, goal_text, goals_line};
 ghost use Rattle.report_commands.specs.DotText.{no_goal_line};
-ghost use Rattle.report_commands.specs.Show.{ShowsFiles, ShowsTrees, show_files, show_held};
+ghost use Rattle.report_commands.specs.Show.{ShowsFiles, ShowsTrees, show_files, show_held, shown_output};
 ghost use Rattle.report_commands.specs.ShowOutput.{show_inputs, show_answer, show_output, show_dot_answer, show_dot_output};
 ghost use Rattle.command_base.specs.CarriesOut.{IsKept};
 
@@ -68,17 +68,25 @@ impl<'a> Show<'a> {
         ensures unwritten { IsKept out.old out.new result }
     {
         let layers = files.layers.layers(alloc)?;
-        let certificate = &files.certificate;
+        Ok(self.print(alloc, &layers, &files.certificate, out)?)
+    }
+
+    // Prints all trees, or the one that is pictured.
+    fn print<W: Write + Drop>(
+        &self,
+        alloc: Global,
+        layers: &[LayerParts<&[u8]>],
+        certificate: &[u8],
+        out: &mut W,
+    ) -> Result<Status, ToolFault>
+        ensures { Prints W.contents out.old out.new result
+            (shown_output self.now.form self.now.pictured (record { layers = map layer_bytes layers.now; certificate = certificate.now })) }
+    {
         match self.pictured {
-            None => Ok(show_bytes(alloc, self.form, &layers, certificate, out)?),
-            Some(goal) => Ok(show_dot_bytes(
-                alloc,
-                self.form,
-                &layers,
-                certificate,
-                goal as usize,
-                out,
-            )?),
+            None => show_bytes(alloc, self.form, layers, certificate, out),
+            Some(goal) => {
+                show_dot_bytes(alloc, self.form, layers, certificate, goal as usize, out)
+            }
         }
     }
 }
