@@ -1,11 +1,10 @@
-use Rattle.std.proofs.Common.{◌≡◌, ℕ, List, Result, Ok, Err}
+use Rattle.std.proofs.Common.{ℕ, List}
 use Rattle.std.proofs.lemmas.Result.{err_from_is_err_and}
 use Rattle.command_base.specs.FilesSeen.{layers_held}
-use Rattle.command_base.specs.Inputs.{Places, file_of, layers_of}
+use Rattle.command_base.specs.Inputs.{file_of, layers_of}
 use Rattle.command_base.specs.StackBytes.{LayerBytes}
-use Rattle.command_base.specs.Stop.{StopOf, stop_of}
 use Rattle.command_base.proofs.ReadInTurn.{first_stops, behind_stops, behind_read, last_read}
-use Rattle.report_commands.specs.Show.{ShowBytes, show_files, show_held}
+use Rattle.report_commands.specs.Show.{ShowBytes, show_files}
 use Rattle.report_commands.proofs.show.ShowFiles.read.Goals as goal
 
 pub returns-in_err-layers : goal.returns-in_err-layers
