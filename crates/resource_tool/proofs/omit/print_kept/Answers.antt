@@ -1,12 +1,10 @@
-use Rattle.std.proofs.Common.{◌≡◌, arith, inr, List, [], ◌∷◌, length, map, Result, Ok, ap, subst, sym, refl, ◌∙◌}
+use Rattle.std.proofs.Common.{◌≡◌, arith, inr, List, [], ◌∷◌, length, map, Result, Ok, ap, sym, refl, ◌∙◌}
 use Rattle.std.proofs.KnownBytes.{Appends-nil}
 use Rattle.std.proofs.lemmas.Bool.{eqb-false, eqb-true}
 use Rattle.std.proofs.lemmas.Result.{err_from_is_err_and}
-use Rattle.std.specs.Io.KnownBytes.{Appends}
 use Rattle.resource_text.specs.cert_maker.cert_tree.declared.cert.CertGoal.{CertGoal}
 use Rattle.resource_text.specs.cert_maker.cert_tree.Certificate.{goal_of}
 use Rattle.resource_text.specs.cert_maker.res_value.Goal.{goal_seen}
-use Rattle.resource_text.specs.cert_maker.declared.omitted.Omitted.{Omitted}
 use Rattle.resource_text.specs.cert_maker.declared.omitted.Omitting.{Omitting}
 use Rattle.table_commands.specs.command_base.declared.status.Status.TheVariants.{Done, Negative}
 use Rattle.table_commands.specs.command_base.Output.{Output}
@@ -32,8 +30,7 @@ returns-then-is_empty-clause-output g c =
     let stack = c.args.stack.now in
     let asked = map goal_seen c.args.goals.now in
     let lines = lines_of stack asked c.in-Cert.omitted.items in
-    let told : Appends (g.E.Write.contents c.args.errors.now) (g.E.Write.contents c.write_omitted.new.errors) lines =
-    subst (λ (os : List Omitted). Appends (g.E.Write.contents c.args.errors.now) (g.E.Write.contents c.write_omitted.new.errors) (lines_of stack asked os)) c.deref.ensures.value (rw c.in_ok-names-in-Cert.ensures at c.in_ok-write_omitted-in-Cert.ensures) in
+    let told = rw (c.in_ok-names-in-Cert.ensures, c.deref.ensures.value) at c.in_ok-write_omitted-in-Cert.ensures in
     let done : MapOutput → Result MapOutput ToolFault = λ m. Ok m in
     let meant = ap (λ (o : Omitting). done (omit_output stack asked o)) c.in-Cert.is ∙ ap (λ (o : Output). done (record { output = o; lines = lines })) (none-kept trees.items count) in
     ([], lines, meant, Appends-nil _, told)
@@ -53,8 +50,7 @@ returns-in_ok-write_line-in-Cert-clause-output g c =
     let stack = c.args.stack.now in
     let asked = map goal_seen c.args.goals.now in
     let lines = lines_of stack asked c.in-Cert.omitted.items in
-    let told : Appends (g.E.Write.contents c.args.errors.now) (g.E.Write.contents c.write_omitted.new.errors) lines =
-    subst (λ (os : List Omitted). Appends (g.E.Write.contents c.args.errors.now) (g.E.Write.contents c.write_omitted.new.errors) (lines_of stack asked os)) c.deref.ensures.value (rw c.in_ok-names-in-Cert.ensures at c.in_ok-write_omitted-in-Cert.ensures) in
+    let told = rw (c.in_ok-names-in-Cert.ensures, c.deref.ensures.value) at c.in_ok-write_omitted-in-Cert.ensures in
     let done : MapOutput → Result MapOutput ToolFault = λ m. Ok m in
     let meant = ap (λ (o : Omitting). done (omit_output stack asked o)) c.in-Cert.is ∙ ap (λ (o : Output). done (record { output = o; lines = lines })) (some-kept trees.items some) in
     let put = rw (c.as_slice.ensures.value, c.in_ok-text-in-Cert.ensures.text) at c.in_ok-write_line-in-Cert.ensures in
