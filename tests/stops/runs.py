@@ -210,6 +210,11 @@ PICTURED = lines(
     "}",
 )
 ASIDE = "set-aside 1 1"
+TITLE_AS_JSON = (
+    '{"line":"changed","name":"string/title","says":{"after":{"value":{"string":"Copper teapot","xml":"\\"Copper teapot\\""}},'
+    '"before":{"value":{"string":"Porcelain teapot","xml":"\\"Porcelain teapot\\""}},"devices":{"locale":["en-GB","en-US"]},'
+    '"on":"en-rGB,en-rUS"}}'
+)
 DIFFERENT = lines(
     "changed color/clay #402000 -> #ff7a4a20 on night",
     "changed color/clay #fff8f4ec -> #ffb87333 on notnight",
@@ -318,6 +323,8 @@ def change_runs():
     yield Run("diff of names", ["diff", *change, "string/title", "dimen/*"], of_change, 1, lines(*title, ASIDE, "same 4"))
     title = [line.replace("en-rGB,en-rUS", "locale=en-GB,en-US") for line in title]
     yield Run("diff --raw", ["diff", "--raw", *change, "string/title", "dimen/*"], of_change, 1, lines(*title, ASIDE, "same 4"))
+    counts = '{"line":"set-aside","new":1,"old":1}', '{"count":0,"line":"same"}'
+    yield Run("diff --json", ["diff", "--json", *change, "string/title"], of_change, 1, lines(TITLE_AS_JSON, *counts))
     of_same = ["diff", "--max-nodes", "3", LAYERS, LAYERS, PHONES, "string/*"]
     yield Run("diff of the same", of_same, [*LAYER_FILES, *LAYER_FILES, PHONES], out=lines(ASIDE, "same 3"))
     limited = ["diff", "--max-nodes", "1", *change, "string/title"]
