@@ -23,7 +23,7 @@ row() {
     echo "failed: $* (${COMPREPLY[*]})"
 }
 row "dump diff device" d
-row "--locales --raw --max-nodes --help" diff --
+row "--locales --raw --json --max-nodes --help" diff --
 row "android" query --locales a
 row "" diff --max-nodes ''
 row "dimen/" query tables/rich.arsc device d
