@@ -1,11 +1,12 @@
 -- No JSON of this crate has a float.
 use Rattle.std.proofs.Common.{◌≡◌, ℕ, Bool, true, false, if◌then◌else◌, List, [], ◌∷◌, map, fold, refl}
 use Rattle.std.proofs.lemmas.Bool.{or_from, or_parts}
+use Rattle.std.specs.Prelude.{codes}
 use Rattle.std.specs.Cmp.Lexicographic.{slice_cmp}
 use Rattle.std.specs.Ordering.{nat_cmp, match_ordering}
 use Rattle.std.specs.declared.cmp.Ordering.{Ordering}
 use Rattle.std.specs.declared.cmp.Ordering.TheVariants as order
-use Rattle.serde_json.specs.Data.{Data, Members, no_members, member, put}
+use Rattle.serde_json.specs.Data.{Data, string, Members, no_members, member, put}
 use Rattle.serde_json.specs.View.{items_of}
 use Rattle.serde_json.specs.Written.{has_float, items_have_float, members_have_float}
 use Rattle.config_box.specs.config_record.declared.coord.Coord.{Coord}
@@ -15,8 +16,11 @@ use Rattle.config_box.specs.box_answers.Members.{set_at}
 use Rattle.notation.specs.Narrower.{is_narrower}
 use Rattle.names.specs.Packages.{PackageNameOf}
 use Rattle.answer_text.specs.Content.{ValueContentOf, StringOf, GarbledOf, BrokenOf, ReferenceOf, AttributeOf, OtherOf, RowKeyOf, PlaceOf, QuantityOf, CalledOf, RowContentOf, ContentOf, ValueOf, BagOf, AbsentOf, TooManyReferencesOf, TooManyParentsOf}
+use Rattle.answer_text.specs.InForm.{value_in, row_value_in}
+use Rattle.answer_text.specs.ValueText.{broken_text}
+use Rattle.notation.specs.declared.form.Form.TheVariants.{Android}
 use Rattle.answer_json.specs.TextJson.{text_data, number_data, list_data}
-use Rattle.answer_json.specs.ContentJson.{value_data, key_data, row_value_data, row_data, content_data}
+use Rattle.answer_json.specs.ContentJson.{label_data, with_value, value_data, key_data, row_value_data, row_data, with_content, content_data}
 use Rattle.answer_json.specs.DevicesJson.{locale_data, set_data, with_narrower, devices_data}
 
 -- ---- lists
@@ -25,53 +29,9 @@ pub items-no_float : {X : Type 0} (f : X → Data) → ((x : X) → has_float (f
 items-no_float f none [] = refl
 items-no_float f none (x ∷ xs) = or_from (has_float (f x)) (items_have_float (items_of (map f xs))) (none x) (items-no_float f none xs)
 
--- ---- contents
+-- ---- objects
 
-pub text-no_float : (text : List ℕ) → has_float (text_data text) ≡ false
-unfolding text_data
-text-no_float text = refl
-
-pub value-no_float : (packages : List PackageNameOf) (value : ValueContentOf) (xml : Data) → has_float xml ≡ false → has_float (value_data packages value xml) ≡ false
-unfolding value_data text_data
-value-no_float packages (StringOf text) xml none = or_from (has_float xml) false none refl
-value-no_float packages (GarbledOf text) xml none = or_from (has_float xml) false none refl
-value-no_float packages (BrokenOf broken) xml none = or_from (has_float xml) false none refl
-value-no_float packages (ReferenceOf label) xml none = or_from (has_float xml) false none refl
-value-no_float packages (AttributeOf label) xml none = or_from (has_float xml) false none refl
-value-no_float packages (OtherOf value) xml none = or_from (has_float xml) false none refl
-
-pub key-no_float : (packages : List PackageNameOf) (key : RowKeyOf) → has_float (key_data packages key) ≡ false
-unfolding key_data text_data
-key-no_float packages (PlaceOf place) = refl
-key-no_float packages (QuantityOf quantity) = refl
-key-no_float packages (CalledOf label) = refl
-
-pub row_value-no_float : (packages : List PackageNameOf) (key : RowKeyOf) (value : ValueContentOf) → has_float (row_value_data packages key value) ≡ false
-row_value-no_float packages key value = value-no_float packages value _ (text-no_float _)
-
-pub row-no_float : (packages : List PackageNameOf) (row : RowContentOf) → has_float (row_data packages row) ≡ false
-unfolding row_data
-row-no_float packages row =
-    or_from (has_float (key_data packages row.key)) _ (key-no_float packages row.key)
-    (or_from (has_float (row_value_data packages row.key row.value)) false (row_value-no_float packages row.key row.value) refl)
-
-pub content-no_float : (packages : List PackageNameOf) (content : ContentOf) → has_float (content_data packages content) ≡ false
-unfolding content_data text_data
-content-no_float packages (ValueOf value) = or_from _ false (value-no_float packages value _ refl) refl
-content-no_float packages (BagOf rows) = or_from _ false (items-no_float (row_data packages) (row-no_float packages) rows) refl
-content-no_float packages (AbsentOf label) = refl
-content-no_float packages (TooManyReferencesOf label) = refl
-content-no_float packages (TooManyParentsOf label) = refl
-
--- ---- devices
-
-pub set-no_float : (set : SetOf) → has_float (set_data set) ≡ false
-unfolding set_data text_data
-set-no_float (RangeOf low high) = refl
-set-no_float (NumbersOf numbers) = items-no_float number_data (λ number. refl) numbers
-set-no_float (LocalesOf numbers) = items-no_float locale_data (λ number. refl) numbers
-
-abbrev NoFloat : Members → Type 0
+abbrev pub NoFloat : Members → Type 0
 NoFloat ms = members_have_float ms ≡ false
 
 at_order : (o : Ordering) (k l : List ℕ) (d e : Data) (ms : Members) → has_float d ≡ false → has_float e ≡ false → NoFloat ms → NoFloat (put k d ms)
@@ -80,11 +40,69 @@ at_order order.Less k l d e ms new old others more = or_from (has_float d) _ new
 at_order order.Equal k l d e ms new old others more = or_from (has_float d) _ new others
 at_order order.Greater k l d e ms new old others more = or_from (has_float e) _ old more
 
-put-no_float : (k : List ℕ) (d : Data) (ms : Members) → has_float d ≡ false → NoFloat ms → NoFloat (put k d ms)
+pub put-no_float : (k : List ℕ) (d : Data) (ms : Members) → has_float d ≡ false → NoFloat ms → NoFloat (put k d ms)
 put-no_float k d no_members new others = or_from (has_float d) false new refl
 put-no_float k d (member l e ms) new others =
     let parts = or_parts (has_float e) (members_have_float ms) others in
     at_order (slice_cmp nat_cmp k l) k l d e ms new parts.0 parts.1 (put-no_float k d ms new parts.1)
+
+-- ---- contents
+
+pub text-no_float : (text : List ℕ) → has_float (text_data text) ≡ false
+unfolding text_data
+text-no_float text = refl
+
+with_value-no_float : (packages : List PackageNameOf) (value : ValueContentOf) (ms : Members) → NoFloat ms → NoFloat (with_value packages value ms)
+unfolding with_value text_data
+with_value-no_float packages (StringOf text) ms none = put-no_float (codes "string") (string text) ms refl none
+with_value-no_float packages (GarbledOf text) ms none = put-no_float (codes "garbled") (text_data text) ms refl none
+with_value-no_float packages (BrokenOf broken) ms none = put-no_float (codes "broken") (text_data (broken_text broken)) ms refl none
+with_value-no_float packages (ReferenceOf label) ms none = put-no_float (codes "reference") (label_data packages label) ms refl none
+with_value-no_float packages (AttributeOf label) ms none = put-no_float (codes "attribute") (label_data packages label) ms refl none
+with_value-no_float packages (OtherOf value) ms none =
+    let kind = put-no_float (codes "kind") (number_data value.kind) ms refl none in
+    put-no_float (codes "word") (number_data value.word) (put (codes "kind") (number_data value.kind) ms) refl kind
+
+pub value-no_float : (packages : List PackageNameOf) (value : ValueContentOf) (xml : List ℕ) → has_float (value_data packages value xml) ≡ false
+unfolding value_data text_data
+value-no_float packages value xml = with_value-no_float packages value (put (codes "xml") (text_data xml) no_members) refl
+
+pub key-no_float : (packages : List PackageNameOf) (key : RowKeyOf) → has_float (key_data packages key) ≡ false
+unfolding key_data text_data
+key-no_float packages (PlaceOf place) = refl
+key-no_float packages (QuantityOf quantity) = refl
+key-no_float packages (CalledOf label) = refl
+
+pub row_value-no_float : (packages : List PackageNameOf) (key : RowKeyOf) (value : ValueContentOf) → has_float (row_value_data packages key value) ≡ false
+row_value-no_float packages key value = value-no_float packages value (row_value_in Android packages key value)
+
+pub row-no_float : (packages : List PackageNameOf) (row : RowContentOf) → has_float (row_data packages row) ≡ false
+unfolding row_data
+row-no_float packages row =
+    let key = put-no_float (codes "key") (key_data packages row.key) no_members (key-no_float packages row.key) refl in
+    put-no_float (codes "value") (row_value_data packages row.key row.value) (put (codes "key") (key_data packages row.key) no_members)
+    (row_value-no_float packages row.key row.value) key
+
+pub with_content-no_float : (packages : List PackageNameOf) (content : ContentOf) (ms : Members) → NoFloat ms → NoFloat (with_content packages content ms)
+unfolding with_content text_data
+with_content-no_float packages (ValueOf value) ms none =
+    let xml = value_in Android packages value in put-no_float (codes "value") (value_data packages value xml) ms (value-no_float packages value xml) none
+with_content-no_float packages (BagOf rows) ms none =
+    put-no_float (codes "bag") (list_data (map (row_data packages) rows)) ms (items-no_float (row_data packages) (row-no_float packages) rows) none
+with_content-no_float packages (AbsentOf label) ms none = put-no_float (codes "absent") (label_data packages label) ms refl none
+with_content-no_float packages (TooManyReferencesOf label) ms none = put-no_float (codes "tooManyReferences") (label_data packages label) ms refl none
+with_content-no_float packages (TooManyParentsOf label) ms none = put-no_float (codes "tooManyParents") (label_data packages label) ms refl none
+
+pub content-no_float : (packages : List PackageNameOf) (content : ContentOf) → has_float (content_data packages content) ≡ false
+content-no_float packages content = with_content-no_float packages content no_members refl
+
+-- ---- devices
+
+pub set-no_float : (set : SetOf) → has_float (set_data set) ≡ false
+unfolding set_data text_data
+set-no_float (RangeOf low high) = put-no_float (codes "to") (number_data high) (put (codes "from") (number_data low) no_members) refl refl
+set-no_float (NumbersOf numbers) = items-no_float number_data (λ number. refl) numbers
+set-no_float (LocalesOf numbers) = items-no_float locale_data (λ number. refl) numbers
 
 either : (b : Bool) (ms others : Members) → NoFloat ms → NoFloat others → NoFloat (if b then ms else others)
 either true ms others first second = first

@@ -1,6 +1,6 @@
--- What resources say, as JSON values. The members of an object stand in the order of their names' bytes.
+-- What resources say, as JSON values. An object is told member by member; they stand in it in the order of their names' bytes.
 use Rattle.std.specs.Prelude.{ℕ, List, codes, map}
-use Rattle.serde_json.specs.Data.{Data, string, object, no_members, member}
+use Rattle.serde_json.specs.Data.{Data, string, object, Members, no_members, put as with_member}
 use Rattle.notation.specs.declared.form.Form.TheVariants.{Android}
 use Rattle.names.specs.Label.{LabelOf}
 use Rattle.names.specs.LabelText.{label_text}
@@ -16,21 +16,21 @@ use Rattle.answer_json.specs.TextJson.{text_data, number_data, list_data}
 abbrev pub label_data : List PackageNameOf → LabelOf → Data
 label_data packages label = text_data (label_text packages label)
 
--- why there is neither a value nor a bag: an object of this member alone, with what the resource is called
-abbrev pub reason_data : List ℕ → List PackageNameOf → LabelOf → Data
-reason_data reason packages label = object (member reason (label_data packages label) no_members)
-
 -- ---- values
 
--- what a value says, and beside it the value as it stands in XML
-unfoldable pub value_data : List PackageNameOf → ValueContentOf → Data → Data
-value_data packages (StringOf text) xml = object (member (codes "string") (string text) (member (codes "xml") xml no_members))
-value_data packages (GarbledOf text) xml = object (member (codes "garbled") (text_data text) (member (codes "xml") xml no_members))
-value_data packages (BrokenOf broken) xml = object (member (codes "broken") (text_data (broken_text broken)) (member (codes "xml") xml no_members))
-value_data packages (ReferenceOf label) xml = object (member (codes "reference") (label_data packages label) (member (codes "xml") xml no_members))
-value_data packages (AttributeOf label) xml = object (member (codes "attribute") (label_data packages label) (member (codes "xml") xml no_members))
-value_data packages (OtherOf value) xml =
-    object (member (codes "kind") (number_data value.kind) (member (codes "word") (number_data value.word) (member (codes "xml") xml no_members)))
+-- with what a value says, beside other members
+unfoldable pub with_value : List PackageNameOf → ValueContentOf → Members → Members
+with_value packages (StringOf text) others = with_member (codes "string") (string text) others
+with_value packages (GarbledOf text) others = with_member (codes "garbled") (text_data text) others
+with_value packages (BrokenOf broken) others = with_member (codes "broken") (text_data (broken_text broken)) others
+with_value packages (ReferenceOf label) others = with_member (codes "reference") (label_data packages label) others
+with_value packages (AttributeOf label) others = with_member (codes "attribute") (label_data packages label) others
+with_value packages (OtherOf value) others =
+    with_member (codes "word") (number_data value.word) (with_member (codes "kind") (number_data value.kind) others)
+
+-- what a value says, and beside it this text, the value as it stands in XML
+unfoldable pub value_data : List PackageNameOf → ValueContentOf → List ℕ → Data
+value_data packages value xml = object (with_value packages value (with_member (codes "xml") (text_data xml) no_members))
 
 -- ---- rows of bags
 
@@ -42,17 +42,21 @@ key_data packages (CalledOf label) = text_data (key_in Android packages (CalledO
 
 -- the value of a row with this key
 abbrev pub row_value_data : List PackageNameOf → RowKeyOf → ValueContentOf → Data
-row_value_data packages key value = value_data packages value (text_data (row_value_in Android packages key value))
+row_value_data packages key value = value_data packages value (row_value_in Android packages key value)
 
 unfoldable pub row_data : List PackageNameOf → RowContentOf → Data
-row_data packages row = object (member (codes "key") (key_data packages row.key) (member (codes "value") (row_value_data packages row.key row.value) no_members))
+row_data packages row =
+    object (with_member (codes "value") (row_value_data packages row.key row.value) (with_member (codes "key") (key_data packages row.key) no_members))
 
 -- ---- resources
 
--- a value, the rows of a bag, or why there is neither
-unfoldable pub content_data : List PackageNameOf → ContentOf → Data
-content_data packages (ValueOf value) = object (member (codes "value") (value_data packages value (text_data (value_in Android packages value))) no_members)
-content_data packages (BagOf rows) = object (member (codes "bag") (list_data (map (row_data packages) rows)) no_members)
-content_data packages (AbsentOf label) = reason_data (codes "absent") packages label
-content_data packages (TooManyReferencesOf label) = reason_data (codes "tooManyReferences") packages label
-content_data packages (TooManyParentsOf label) = reason_data (codes "tooManyParents") packages label
+-- with a value, the rows of a bag, or why there is neither: what the resource is called that it is about
+unfoldable pub with_content : List PackageNameOf → ContentOf → Members → Members
+with_content packages (ValueOf value) others = with_member (codes "value") (value_data packages value (value_in Android packages value)) others
+with_content packages (BagOf rows) others = with_member (codes "bag") (list_data (map (row_data packages) rows)) others
+with_content packages (AbsentOf label) others = with_member (codes "absent") (label_data packages label) others
+with_content packages (TooManyReferencesOf label) others = with_member (codes "tooManyReferences") (label_data packages label) others
+with_content packages (TooManyParentsOf label) others = with_member (codes "tooManyParents") (label_data packages label) others
+
+abbrev pub content_data : List PackageNameOf → ContentOf → Data
+content_data packages content = object (with_content packages content no_members)

@@ -1,14 +1,13 @@
 //! What resources say, as JSON values.
 
-ghost use Rattle.std.specs.Prelude.{◌≡◌, map, codes, IfOk};
-ghost use Rattle.serde_json.specs.Data.{object, no_members, member, put as with_member};
-ghost use Rattle.serde_json.specs.View.{view};
+ghost use Rattle.std.specs.Prelude.{◌≡◌, map, IfOk, OnOk};
+ghost use Rattle.serde_json.specs.View.{view, members_view};
 ghost use Rattle.names.specs.Label.{label_of};
 ghost use Rattle.answer_text.specs.ContentSeen.{value_content_of, row_key_of, row_content_of, content_of};
 ghost use Rattle.answer_text.specs.InForm.{value_in, key_in};
 ghost use Rattle.answer_text.specs.ValueText.{value_content_text};
-ghost use Rattle.answer_json.specs.TextJson.{text_data, number_data};
-ghost use Rattle.answer_json.specs.ContentJson.{label_data, reason_data, value_data, key_data, row_value_data, row_data, content_data};
+ghost use Rattle.answer_json.specs.TextJson.{text_data};
+ghost use Rattle.answer_json.specs.ContentJson.{label_data, with_value, value_data, key_data, row_value_data, row_data, with_content, content_data};
 ghost use Rattle.notation.specs.declared.form.Form.TheVariants.{Android};
 
 use crate::text::text_json;
@@ -17,7 +16,7 @@ use answer_text::{
     write_value_content, write_value_in,
 };
 use names::{Label, PackageNames};
-use serde_json::{Map, Value, json, put};
+use serde_json::{Map, Value, put};
 use std::alloc::{AllocError, Global};
 
 // ---- names
@@ -40,53 +39,77 @@ pub fn label_json(
 
 // ---- values
 
-#[tactic(auto, unfolding(crate::specs::ContentJson::value_data, crate::specs::Unfolded::value_content_text))]
+/// What a value says.
+///
+/// ```text
+/// let said = value_json(alloc, &packages, &value)?; // {"kind":5,"word":4097,"xml":"16dp"}
+/// ```
+pub fn value_json(
+    alloc: Global,
+    packages: &PackageNames<'_>,
+    value: &ValueContent<'_>,
+) -> Result<Value, AllocError>
+    ensures { IfOk result (λ json. view json ≡ value_data packages.now (value_content_of value.now)
+        (value_in Android packages.now (value_content_of value.now))) }
+{
+    let mut xml = Vec::new(alloc);
+    match write_value_in(Form::Android, packages, value, &mut xml) {
+        Ok(()) => value_with(alloc, packages, value, &xml),
+        // To a `Vec` only a want of memory is a fault.
+        Err(_) => Err(AllocError),
+    }
+}
+
+// A value that stands in XML as this text.
+#[tactic(auto, unfolding(crate::specs::ContentJson::value_data))]
 fn value_with(
     alloc: Global,
     packages: &PackageNames<'_>,
     value: &ValueContent<'_>,
-    xml: Value,
+    xml: &[u8],
 ) -> Result<Value, AllocError>
-    ensures { IfOk result (λ json. view json ≡ value_data packages.now (value_content_of value.now) (view xml)) }
+    ensures { IfOk result (λ json. view json ≡ value_data packages.now (value_content_of value.now) xml.now) }
+{
+    let mut members = Map::new(alloc);
+    put(&mut members, alloc, "xml", text_json(alloc, xml)?)?;
+    put_value(alloc, packages, value, &mut members)?;
+    Ok(Value::Object(members))
+}
+
+// Puts what it says beside other members.
+#[tactic(auto, unfolding(crate::specs::ContentJson::with_value, crate::specs::Unfolded::value_content_text))]
+fn put_value(
+    alloc: Global,
+    packages: &PackageNames<'_>,
+    value: &ValueContent<'_>,
+    members: &mut Map<String, Value>,
+) -> Result<(), AllocError>
+    ensures { OnOk result (members_view members.new.entries
+        ≡ with_value packages.now (value_content_of value.now) (members_view members.old.entries)) }
 {
     match value {
         ValueContent::String(text) => {
             let text = Value::try_from_str(alloc, text.as_str())?;
-            beside_xml(alloc, "string", text, xml)
+            put(members, alloc, "string", text)
         }
-        ValueContent::Garbled(text) => beside_xml(alloc, "garbled", text_json(alloc, text)?, xml),
+        ValueContent::Garbled(text) => put(members, alloc, "garbled", text_json(alloc, text)?),
         ValueContent::Broken(_) => {
             let broken = raw_json(alloc, packages, value)?;
-            beside_xml(alloc, "broken", broken, xml)
+            put(members, alloc, "broken", broken)
         }
         ValueContent::Reference(label) => {
             let name = label_json(alloc, packages, label)?;
-            beside_xml(alloc, "reference", name, xml)
+            put(members, alloc, "reference", name)
         }
         ValueContent::Attribute(label) => {
             let name = label_json(alloc, packages, label)?;
-            beside_xml(alloc, "attribute", name, xml)
+            put(members, alloc, "attribute", name)
         }
-        ValueContent::Other { kind, word } => other_json(alloc, *kind, *word, xml),
+        ValueContent::Other { kind, word } => {
+            put(members, alloc, "kind", Value::from(*kind))?;
+            put(members, alloc, "word", Value::from(*word))
+        }
     }
-}
-
-// The object of a member with this name, and of the value in XML.
-fn beside_xml(alloc: Global, name: &str, value: Value, xml: Value) -> Result<Value, AllocError>
-    ensures { IfOk result (λ json. view json ≡ object
-        (with_member (codes "xml") (view xml) (with_member name.now (view value) no_members))) }
-{
-    let mut members = Map::new(alloc);
-    put(&mut members, alloc, name, value)?;
-    put(&mut members, alloc, "xml", xml)?;
-    Ok(Value::Object(members))
-}
-
-fn other_json(alloc: Global, kind: u8, word: u32, xml: Value) -> Result<Value, AllocError>
-    ensures { IfOk result (λ json. view json ≡ object
-        (member (codes "kind") (number_data kind) (member (codes "word") (number_data word) (member (codes "xml") (view xml) no_members)))) }
-{
-    json!(in alloc; {"kind": kind, "word": word, "xml": xml})
 }
 
 // What `--raw` prints of it: of a broken string its fault and its index.
@@ -99,22 +122,6 @@ fn raw_json(
 {
     let mut text = Vec::new(alloc);
     match write_value_content(packages, value, &mut text) {
-        Ok(()) => text_json(alloc, &text),
-        // To a `Vec` only a want of memory is a fault.
-        Err(_) => Err(AllocError),
-    }
-}
-
-// A value as it stands in XML.
-fn xml_json(
-    alloc: Global,
-    packages: &PackageNames<'_>,
-    value: &ValueContent<'_>,
-) -> Result<Value, AllocError>
-    ensures { IfOk result (λ text. view text ≡ text_data (value_in Android packages.now (value_content_of value.now))) }
-{
-    let mut text = Vec::new(alloc);
-    match write_value_in(Form::Android, packages, value, &mut text) {
         Ok(()) => text_json(alloc, &text),
         // To a `Vec` only a want of memory is a fault.
         Err(_) => Err(AllocError),
@@ -162,12 +169,9 @@ pub fn row_value_json(
 ) -> Result<Value, AllocError>
     ensures { IfOk result (λ json. view json ≡ row_value_data packages.now (row_key_of key.now) (value_content_of value.now)) }
 {
-    let mut text = Vec::new(alloc);
-    match write_row_value_in(Form::Android, packages, key, value, &mut text) {
-        Ok(()) => {
-            let xml = text_json(alloc, &text)?;
-            value_with(alloc, packages, value, xml)
-        }
+    let mut xml = Vec::new(alloc);
+    match write_row_value_in(Form::Android, packages, key, value, &mut xml) {
+        Ok(()) => value_with(alloc, packages, value, &xml),
         // To a `Vec` only a want of memory is a fault.
         Err(_) => Err(AllocError),
     }
@@ -182,9 +186,12 @@ fn row_json(
 ) -> Result<Value, AllocError>
     ensures { IfOk result (λ json. view json ≡ row_data packages.now (row_content_of row.now)) }
 {
+    let mut members = Map::new(alloc);
     let key = key_json(alloc, packages, &row.key)?;
+    put(&mut members, alloc, "key", key)?;
     let value = row_value_json(alloc, packages, &row.key, &row.value)?;
-    json!(in alloc; {"key": key, "value": value})
+    put(&mut members, alloc, "value", value)?;
+    Ok(Value::Object(members))
 }
 
 fn rows_json(
@@ -209,7 +216,6 @@ fn rows_json(
 /// ```text
 /// let said = content_json(alloc, &packages, &content)?; // {"value":{"kind":5,"word":4097,"xml":"16dp"}}
 /// ```
-#[tactic(auto, unfolding(crate::specs::ContentJson::content_data))]
 pub fn content_json(
     alloc: Global,
     packages: &PackageNames<'_>,
@@ -217,38 +223,29 @@ pub fn content_json(
 ) -> Result<Value, AllocError>
     ensures { IfOk result (λ json. view json ≡ content_data packages.now (content_of content.now)) }
 {
-    match content {
-        Content::Value(value) => {
-            let xml = xml_json(alloc, packages, value)?;
-            let value = value_with(alloc, packages, value, xml)?;
-            json!(in alloc; {"value": value})
-        }
-        Content::Bag(rows) => {
-            let rows = Value::Array(rows_json(alloc, packages, rows)?);
-            json!(in alloc; {"bag": rows})
-        }
-        Content::Absent(label) => reason_json(alloc, "absent", packages, label),
-        Content::TooManyReferences(label) => reason_json(
-            alloc,
-            "tooManyReferences",
-            packages,
-            label,
-        ),
-        Content::TooManyParents(label) => reason_json(alloc, "tooManyParents", packages, label),
-    }
+    let mut members = Map::new(alloc);
+    put_content(alloc, packages, content, &mut members)?;
+    Ok(Value::Object(members))
 }
 
-// Why there is neither a value nor a bag.
-fn reason_json(
+#[tactic(auto, unfolding(crate::specs::ContentJson::with_content))]
+fn put_content(
     alloc: Global,
-    reason: &str,
     packages: &PackageNames<'_>,
-    label: &Label<'_>,
-) -> Result<Value, AllocError>
-    ensures { IfOk result (λ json. view json ≡ reason_data reason.now packages.now (label_of label.now)) }
+    content: &Content<'_>,
+    members: &mut Map<String, Value>,
+) -> Result<(), AllocError>
+    ensures { OnOk result (members_view members.new.entries
+        ≡ with_content packages.now (content_of content.now) (members_view members.old.entries)) }
 {
-    let name = label_json(alloc, packages, label)?;
-    let mut members = Map::new(alloc);
-    put(&mut members, alloc, reason, name)?;
-    Ok(Value::Object(members))
+    let (name, said) = match content {
+        Content::Value(value) => ("value", value_json(alloc, packages, value)?),
+        Content::Bag(rows) => ("bag", Value::Array(rows_json(alloc, packages, rows)?)),
+        Content::Absent(label) => ("absent", label_json(alloc, packages, label)?),
+        Content::TooManyReferences(label) => {
+            ("tooManyReferences", label_json(alloc, packages, label)?)
+        }
+        Content::TooManyParents(label) => ("tooManyParents", label_json(alloc, packages, label)?),
+    };
+    put(members, alloc, name, said)
 }

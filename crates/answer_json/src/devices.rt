@@ -3,7 +3,7 @@
 ghost use Rattle.std.specs.Prelude.{◌≡◌, map, fold, IfOk, OnOk};
 ghost use Rattle.serde_json.specs.View.{view, members_view};
 ghost use Rattle.config_box.specs.BoxSeen.{values_seen};
-ghost use Rattle.config_box.specs.box_answers.NumberSet.{locale_numbers};
+ghost use Rattle.config_box.specs.box_answers.NumberSet.{RangeOf, locale_numbers};
 ghost use Rattle.answer_json.specs.TextJson.{number_data};
 ghost use Rattle.answer_json.specs.DevicesJson.{locale_data, set_data, with_narrower, devices_data};
 
@@ -11,7 +11,7 @@ use crate::text::text_json;
 use config_box::{ConfigBox, Coord, Locale, Values};
 use locales::write_locale;
 use notation::is_narrower;
-use serde_json::{Map, Value, json, put};
+use serde_json::{Map, Value, put};
 use std::alloc::{AllocError, Global};
 
 /// Which devices a part of a box has: an object with what it has at the coordinates at which it has fewer numbers than the whole,
@@ -70,10 +70,20 @@ fn values_json(alloc: Global, values: Values<'_>) -> Result<Value, AllocError>
     ensures { IfOk result (λ value. view value ≡ set_data (values_seen values.entry)) }
 {
     match values {
-        Values::Range(low, high) => json!(in alloc; {"from": low, "to": high}),
+        Values::Range(low, high) => range_json(alloc, low, high),
         Values::Numbers(numbers) => Ok(Value::Array(numbers_json(alloc, numbers)?)),
         Values::Locales(locales) => Ok(Value::Array(locales_json(alloc, locales)?)),
     }
+}
+
+#[tactic(auto, unfolding(crate::specs::DevicesJson::set_data))]
+fn range_json(alloc: Global, low: u32, high: u32) -> Result<Value, AllocError>
+    ensures { IfOk result (λ value. view value ≡ set_data (RangeOf low high)) }
+{
+    let mut members = Map::new(alloc);
+    put(&mut members, alloc, "from", Value::from(low))?;
+    put(&mut members, alloc, "to", Value::from(high))?;
+    Ok(Value::Object(members))
 }
 
 fn numbers_json(alloc: Global, numbers: &[u32]) -> Result<Vec<Value>, AllocError>

@@ -13,6 +13,6 @@ mod content;
 mod devices;
 mod text;
 
-pub use content::{content_json, key_json, label_json, row_value_json};
+pub use content::{content_json, key_json, label_json, row_value_json, value_json};
 pub use devices::devices_json;
 pub use text::text_json;

@@ -16,7 +16,7 @@ use Rattle.command_base.specs.Output.{PrintsOneOf}
 use Rattle.command_base.specs.StackBytes.{LayerBytes}
 use Rattle.command_base.specs.Stop.{StopOf}
 use Rattle.command_base.specs.names.NamedPairs.{pairs_named}
-use Rattle.change_text.specs.declared.line_form.LineForm.{LineForm}
+use Rattle.resource_text.specs.declared.line_form.LineForm.{LineForm}
 use Rattle.stack_diff.specs.config_box.config_record.locales.declared.locale_rule.LocaleRule.{LocaleRule}
 use Rattle.stack_diff.specs.names.Pairs.{PairOf, name_pairs}
 use Rattle.diff_command.specs.declared.diff.Diff.{Diff}

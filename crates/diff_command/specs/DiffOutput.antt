@@ -2,8 +2,8 @@
 use Rattle.std.specs.Prelude.{◌≡◌, ℕ, List, [], ◌∷◌, ◌++◌, Option, Some, None, codes}
 use Rattle.command_base.specs.declared.status.Status.TheVariants.{Negative}
 use Rattle.command_base.specs.Output.{Output, negative_if}
-use Rattle.change_text.specs.declared.line_form.LineForm.{LineForm}
-use Rattle.change_text.specs.declared.line_form.LineForm.TheVariants.{Text, Json}
+use Rattle.resource_text.specs.declared.line_form.LineForm.{LineForm}
+use Rattle.resource_text.specs.declared.line_form.LineForm.TheVariants.{Text, Json}
 use Rattle.stack_diff.specs.config_box.config_record.locales.declared.locale_rule.LocaleRule.{LocaleRule}
 use Rattle.stack_diff.specs.names.Pairs.{PairOf}
 use Rattle.stack_diff.specs.Stacks.{StacksOf}

@@ -14,7 +14,7 @@ pub mod Unused
 pub mod NameLines
 pub mod JsonLines
 pub use Rattle.notation.specs as notation
-pub use Rattle.change_text.specs as change_text
+pub use Rattle.resource_text.specs as resource_text
 pub use Rattle.stack_diff.specs as stack_diff
 pub use Rattle.stack_diff.specs.config_box
 pub use Rattle.stack_diff.specs.names

@@ -3,7 +3,7 @@ use Rattle.std.specs.Prelude.{◌≡◌, ℕ, Bool, ◌<◌, ◌≤◌, List, []
 use Rattle.std.specs.Cmp.Lexicographic.{slice_cmp}
 use Rattle.std.specs.List.{AllZip, flat_map, sum}
 use Rattle.std.specs.Ordering.{is_lt, nat_cmp}
-use Rattle.change_text.specs.declared.line_form.LineForm.{LineForm}
+use Rattle.resource_text.specs.declared.line_form.LineForm.{LineForm}
 use Rattle.stack_diff.specs.config_box.box_answers.NumberSet.{SetOf}
 use Rattle.stack_diff.specs.names.Packages.{PackageNameOf}
 use Rattle.stack_diff.specs.names.Pairs.{PairOf}
@@ -14,7 +14,7 @@ use Rattle.stack_diff.specs.Stacks.{StacksOf, differs}
 use Rattle.stack_diff.specs.Changes.{ChangeOf}
 use Rattle.stack_diff.specs.Fewest.{AreToldShort}
 use Rattle.stack_diff.specs.NeededTree.{HasTree}
-use Rattle.change_text.specs.ChangeBlock.{change_block}
+use Rattle.resource_text.specs.ChangeBlock.{change_block}
 
 -- ---- what is told of a label, behind its name
 

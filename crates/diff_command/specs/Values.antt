@@ -16,7 +16,7 @@ use Rattle.command_base.specs.StackBytes.{LayerBytes, stack_in}
 use Rattle.command_base.specs.Stop.{StopOf}
 use Rattle.command_base.specs.ToolFault.{fault_of_box}
 use Rattle.command_base.specs.overlay_map.Layer.{LayerOf}
-use Rattle.change_text.specs.declared.line_form.LineForm.{LineForm}
+use Rattle.resource_text.specs.declared.line_form.LineForm.{LineForm}
 use Rattle.stack_diff.specs.config_box.BoxJson.{box_in_by}
 use Rattle.stack_diff.specs.config_box.config_record.locales.declared.locale_rule.LocaleRule.{LocaleRule}
 use Rattle.stack_diff.specs.names.NamedIds.{packages_of}

@@ -6,8 +6,8 @@ use Rattle.command_base.specs.Output.{Output}
 use Rattle.command_base.specs.SetAside.{rows_set_aside}
 use Rattle.command_base.specs.declared.status.Status.TheVariants.{Done, Negative}
 use Rattle.answer_text.specs.ContentAt.{content_at}
-use Rattle.change_text.specs.declared.line_form.LineForm.{LineForm}
-use Rattle.change_text.specs.declared.line_form.LineForm.TheVariants.{Text, Json}
+use Rattle.resource_text.specs.declared.line_form.LineForm.{LineForm}
+use Rattle.resource_text.specs.declared.line_form.LineForm.TheVariants.{Text, Json}
 use Rattle.stack_diff.specs.cert_maker.res_value.declared.res_id.ResId.{ResId}
 use Rattle.stack_diff.specs.config_box.box_answers.NumberSet.{SetOf}
 use Rattle.stack_diff.specs.config_box.config_record.locales.declared.locale_rule.LocaleRule.{LocaleRule}

@@ -19,11 +19,11 @@ use crate::judged::tell_all;
 use crate::lines::{node_limit_line, some_differ, write_lines};
 use crate::opened::{NamedDiff, OpenedDiff};
 use crate::told::Told;
-use change_text::LineForm;
 use command_base::{
     Inputs, LayerFiles, LayerParts, LocaleRule, NamedSet, Progress, Side, Status, Stop, ToolFault,
     asked_sets, asked_words, file_bytes,
 };
+use resource_text::LineForm;
 use stack_diff::{NamePair, Stacks};
 use std::alloc::Global;
 use std::io::Write;

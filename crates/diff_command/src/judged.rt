@@ -8,8 +8,8 @@ ghost use Rattle.diff_command.specs.Judged.{told_of, IsJudged, IsKept};
 ghost use Rattle.diff_command.specs.Telling.{AreTold};
 
 use crate::told::Told;
-use change_text::LineForm;
 use command_base::Progress;
+use resource_text::LineForm;
 use stack_diff::{ConfigBox, NamePair, ResId, Sides, Stacks, compare};
 use std::alloc::{AllocError, Global};
 use std::collections::BTreeMap;
@@ -102,7 +102,7 @@ fn judge_both<'a>(
 
 impl Judged {
     ghost use Rattle.std.specs.Prelude.{◌≡◌, IfOk};
-    ghost use Rattle.change_text.specs.declared.line_form.LineForm.{LineForm};
+    ghost use Rattle.resource_text.specs.declared.line_form.LineForm.{LineForm};
     ghost use Rattle.stack_diff.specs.Stacks.{StacksOf};
     ghost use Rattle.stack_diff.specs.names.declared.pair.Sides.{Sides};
     ghost use Rattle.stack_diff.specs.config_box.box_answers.NumberSet.{SetOf};

@@ -58,10 +58,10 @@ mod unused_rows;
 mod value_lines;
 mod values;
 
-pub use change_text::{Form, LineForm};
 pub use command_base::{LayerParts, Status, ToolFault};
 pub use diff::Diff;
 pub use opened::{NamedDiff, OpenedDiff};
+pub use resource_text::{Form, LineForm};
 pub use stack_diff::{ConfigBox, Label, NamePair, NamedStack, Sides};
 pub use unused::Unused;
 pub use values::Values;

@@ -13,8 +13,8 @@ ghost use Rattle.diff_command.specs.DiffOutput.{node_limit_line};
 ghost use Rattle.diff_command.specs.DiffLines.{block_lines, told_lines, label_lines, says_same, same_count, some_differ, counts_line, shared_names_line, set_aside_line, diff_lines};
 
 use crate::told::Told;
-use change_text::LineForm;
 use command_base::{LocaleRule, rows_set_aside};
+use resource_text::LineForm;
 use stack_diff::{Label, NamePair, NamedStack, PackageNames, Stacks};
 use std::io::{self, Write};
 

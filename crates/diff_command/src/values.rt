@@ -21,11 +21,11 @@ use crate::judged::tell_all;
 use crate::lines::node_limit_line;
 use crate::told::Told;
 use crate::value_lines::write_value_lines;
-use change_text::LineForm;
 use command_base::{
     Inputs, LayerFiles, LocaleRule, NamedSet, Progress, Status, Stop, ToolFault, asked_sets,
     asked_words, file_bytes, open_stack,
 };
+use resource_text::LineForm;
 use stack_diff::{ConfigBox, NamePair, NamedStack, PackageNames, Stack, Stacks};
 use std::alloc::{AllocError, Global};
 use std::io::Write;

@@ -1,1 +1,2 @@
 pub use Rattle.cert_maker.proofs.cert_tree
+pub mod NoFloat

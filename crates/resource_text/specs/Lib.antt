@@ -1,4 +1,15 @@
 pub mod VerdictText
 pub mod RejectionNotation
+pub mod DevicesText
+pub mod ContentText
+pub mod BagRows
+pub mod DifferenceText
+pub mod ChangeJson
+pub mod ChangeBlock
+pub mod Unfolded
 pub use Rattle.cert_maker.specs as cert_maker
 pub use Rattle.answer_notation.specs as answer_notation
+pub use Rattle.notation.specs as notation
+pub use Rattle.stack_diff.specs as stack_diff
+pub use Rattle.stack_diff.specs.config_box
+pub use Rattle.stack_diff.specs.names
