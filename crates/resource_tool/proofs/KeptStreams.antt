@@ -1,7 +1,11 @@
 -- What a fault leaves of what was printed and said.
-use Rattle.std.proofs.Common.{◌≡◌, ◌≢◌, ℕ, Bool, true, false, List, Option, Result, Ok, Err, refl, ◌∙◌}
+use Rattle.std.proofs.Common.{◌≡◌, ◌≢◌, ℕ, Bool, true, false, List, Option, Result, Ok, Err, MatchResult, refl, sym, subst, ◌∙◌}
 use Rattle.table_commands.specs.command_base.declared.fault.ToolFault.{ToolFault}
 use Rattle.table_commands.specs.command_base.declared.fault.ToolFault.TheVariants.{OutOfMemory, Write}
+use Rattle.table_commands.specs.command_base.declared.status.Status.{Status}
+use Rattle.table_commands.specs.command_base.declared.stop.Stop.{Stop}
+use Rattle.table_commands.specs.command_base.declared.stop.Stop.TheVariants.{Tool}
+use Rattle.table_commands.specs.command_base.CarriesOut.{IsKept}
 use Rattle.table_commands.specs.command_base.Output.{Output}
 use Rattle.table_commands.specs.command_base.Stop.{tool}
 use Rattle.resource_tool.specs.Answered.{PrintsBothOneOf}
@@ -22,3 +26,33 @@ kept-made is_terminal true names most contents says old new before after make fa
     let kept = kept-both (IsOmitOutput make.goals most) contents says old new shown after fault (Ok make.opened) made told in (kept.0, λ no_terminal. kept.1 ∙ plain no_terminal)
 kept-made is_terminal false names most contents says old new before after make fault (shown, plain, made) told =
     let kept = kept-both (IsMakeAnswer make.goals most names) contents says old new shown after fault (Ok make.opened) made told in (kept.0, λ no_terminal. kept.1 ∙ plain no_terminal)
+
+-- ---- by what the command did
+
+-- nothing was written
+pub kept-still : {W : Type 0} (writer : W) (result : Result Status Stop) → IsKept writer writer result
+kept-still writer (Ok status) = tt
+kept-still writer (Err stop) = λ told. refl
+
+both-end : {W V : Type 0} (old new : W) (before after : V) (done : Result Status ToolFault) (result : Result Status Stop)
+    → ((fault : ToolFault) → done ≡ Err fault → tool fault ≢ tool Write → (new ≡ old) × (after ≡ before))
+    → MatchResult done (λ status. result ≡ Ok status) (λ fault. result ≡ Err (Tool fault)) → IsKept old new result × IsKept before after result
+both-end old new before after (Ok status) result kept same = subst (λ (r : Result Status Stop). IsKept old new r × IsKept before after r) (sym same) (tt, tt)
+both-end old new before after (Err fault) result kept same =
+    subst (λ (r : Result Status Stop). IsKept old new r × IsKept before after r) (sym same) (λ told. (kept fault refl told).0, λ told. (kept fault refl told).1)
+
+pub both-by-done : {W V X : Type 0} (Allows : X → Output → List ℕ → Type 0) (contents : W → Option (List ℕ)) (says : V → Option (List ℕ)) (old new : W) (before after : V) (meant : Result X ToolFault)
+    (done : Result Status ToolFault) (result : Result Status Stop) → PrintsBothOneOf Allows contents says old new before after done meant
+    → MatchResult done (λ status. result ≡ Ok status) (λ fault. result ≡ Err (Tool fault)) → IsKept old new result × IsKept before after result
+both-by-done Allows contents says old new before after meant done result printed same =
+    both-end old new before after done result
+    (λ fault is. kept-both Allows contents says old new before after fault meant (subst (λ (r : Result Status ToolFault). PrintsBothOneOf Allows contents says old new before after r meant) is printed)) same
+
+pub made-by-done : {W V : Type 0} (is_terminal omit names : Bool) (most : ℕ) (contents : W → Option (List ℕ)) (says : V → Option (List ℕ)) (old new : W) (before after : V) (make : OpenMakeOf)
+    (done : Result Status ToolFault) (result : Result Status Stop) → PrintsMade is_terminal omit names most contents says old new before after make done
+    → MatchResult done (λ status. result ≡ Ok status) (λ fault. result ≡ Err (Tool fault)) → IsKept old new result × (is_terminal ≡ false → IsKept before after result)
+made-by-done is_terminal omit names most contents says old new before after make (Ok status) result made same =
+    subst (λ (r : Result Status Stop). IsKept old new r × (is_terminal ≡ false → IsKept before after r)) (sym same) (tt, λ no_terminal. tt)
+made-by-done is_terminal omit names most contents says old new before after make (Err fault) result made same =
+    let kept : tool fault ≢ tool Write → (new ≡ old) × (is_terminal ≡ false → after ≡ before) = kept-made is_terminal omit names most contents says old new before after make fault made in
+    subst (λ (r : Result Status Stop). IsKept old new r × (is_terminal ≡ false → IsKept before after r)) (sym same) (λ told. (kept told).0, λ no_terminal told. (kept told).1 no_terminal)

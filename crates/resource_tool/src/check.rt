@@ -15,6 +15,7 @@ ghost use Rattle.resource_tool.specs.CheckHeadline.{HeadlineHolds};
 ghost use Rattle.resource_tool.specs.OpenedSeen.{opened_cert};
 ghost use Rattle.table_commands.specs.command_base.CarriesOut.{IsKept};
 
+use crate::answered::status_or_stop;
 use crate::box_files::BoxFiles;
 use crate::verdict_told::write_verdict;
 use cert_checker::check;
@@ -88,17 +89,9 @@ impl<'a> Check<'a> {
         ensures quiet { self.now.names ≡ false → errors.new ≡ errors.old }
         ensures unsaid { IsKept errors.old errors.new result }
     {
-        let layers = files.layers.layers(alloc)?;
-        let check = OpenCheck::open(
-            alloc,
-            &layers,
-            &files.box_json,
-            &files.certificate,
-            self.locales,
-            &files.words,
-        )?;
-        let OpenCheck { opened, goals } = check;
-        Ok(opened.tell(alloc, &goals, self, files.layers.paths(), out, errors)?)
+        let OpenCheck { opened, goals } = OpenCheck::open(alloc, files, self.locales)?;
+        let paths = files.layers.paths();
+        status_or_stop(opened.tell(alloc, &goals, self, paths, out, errors))
     }
 }
 
@@ -150,17 +143,21 @@ impl<'a> OpenCheck<'a> {
     #[tactic(auto, unfolding(crate::specs::Check::check_opened))]
     fn open(
         alloc: Global,
-        layers: &[LayerParts<&'a [u8]>],
-        box_json: &[u8],
-        certificate: &[u8],
+        files: &'a CheckFiles,
         rule: LocaleRule,
-        words: &[String],
     ) -> Result<OpenCheck<'a>, Stop<'static>>
-        ensures { GivesOrStops check_seen result
-            (first_opened (check_opened rule (map layer_bytes layers.now) box_json.now certificate.now (map string_bytes words.now))) }
+        ensures { GivesOrStops check_seen result (first_opened (check_opened rule (check_held files.now).layers
+            (check_held files.now).box_json (check_held files.now).certificate (check_held files.now).words)) }
     {
-        let named = asked_goals(alloc, words)?;
-        let opened = OpenedCert::read_by(alloc, layers, box_json, certificate, rule)?;
+        let named = asked_goals(alloc, &files.words)?;
+        let layers = files.layers.layers(alloc)?;
+        let opened = OpenedCert::read_by(
+            alloc,
+            &layers,
+            &files.box_json,
+            &files.certificate,
+            rule,
+        )?;
         let most = opened.certificate.goals.len() + 1;
         let goals = first_goals(alloc, &opened.stack, &named, most)?;
         Ok(OpenCheck { opened, goals })

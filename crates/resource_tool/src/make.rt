@@ -1,6 +1,6 @@
 //! The command `make`.
 
-ghost use Rattle.std.specs.Prelude.{◌≡◌, ◌∷◌, ◌++◌, ◌||◌, [], false, map, string_bytes, Ok, OnOk, IfOk, IfSome};
+ghost use Rattle.std.specs.Prelude.{◌≡◌, ◌∷◌, ◌++◌, ◌||◌, [], false, map, Ok, OnOk, IfOk, IfSome};
 ghost use Rattle.contract_words.specs.Exact.{GivesOr};
 ghost use Rattle.contract_words.specs.Writes.{Writes};
 ghost use Rattle.serde_json.specs.Written.{compact_text};
@@ -22,7 +22,7 @@ ghost use Rattle.resource_tool.specs.LineReadsBack.{LineReadsBack, TreesReadBack
 ghost use Rattle.resource_tool.specs.OpenedSeen.{opened_box};
 ghost use Rattle.table_commands.specs.command_base.CarriesOut.{IsKept};
 
-use crate::answered::Answered;
+use crate::answered::{Answered, status_or_stop};
 use crate::box_files::GoalFiles;
 use crate::goal_told::write_goal_told;
 use crate::opened_box::OpenedBox;
@@ -93,9 +93,8 @@ impl<'a> Make<'a> {
         ensures quiet { watch.entry.is_terminal ≡ false → (self.now.names || self.now.omit) ≡ false → errors.new ≡ errors.old }
         ensures unsaid { watch.entry.is_terminal ≡ false → IsKept errors.old errors.new result }
     {
-        let layers = files.layers.layers(alloc)?;
-        let make = OpenMake::open(alloc, &layers, &files.box_json, &files.words, self)?;
-        Ok(make.answer(alloc, self, watch, out, errors)?)
+        let make = OpenMake::open(alloc, files, self)?;
+        status_or_stop(make.answer(alloc, self, watch, out, errors))
     }
 
     // How many goals are looked at. Where goals without a value are left out all are, else as many as decide: the tree of each
@@ -124,16 +123,15 @@ impl<'a> OpenMake<'a> {
     #[tactic(auto, unfolding(crate::specs::Make::make_opened))]
     fn open(
         alloc: Global,
-        layers: &[LayerParts<&'a [u8]>],
-        box_json: &[u8],
-        words: &[String],
+        files: &'a GoalFiles,
         asked: &Make<'_>,
     ) -> Result<OpenMake<'a>, Stop<'static>>
         ensures { GivesOrStops make_seen result (looked_at asked.now.omit asked.now.max_nodes
-            (make_opened asked.now.locales (map layer_bytes layers.now) box_json.now (map string_bytes words.now))) }
+            (make_opened asked.now.locales (goals_held files.now).layers (goals_held files.now).box_json (goals_held files.now).words)) }
     {
-        let named = asked_goals(alloc, words)?;
-        let opened = OpenedBox::read_by(alloc, layers, box_json, asked.locales)?;
+        let named = asked_goals(alloc, &files.words)?;
+        let layers = files.layers.layers(alloc)?;
+        let opened = OpenedBox::read_by(alloc, &layers, &files.box_json, asked.locales)?;
         let most = asked.most_goals();
         let goals = first_goals(alloc, &opened.stack, &named, most)?;
         Ok(OpenMake { opened, goals })

@@ -1,7 +1,6 @@
 use Rattle.std.proofs.Common.{ℕ, List, Bor, map}
 use Rattle.std.proofs.lemmas.Result.{err_from_is_err_and}
 use Rattle.contract_words.specs.Sequences.{joined_each}
-use Rattle.command_base.specs.FilesSeen.{layers_held}
 use Rattle.command_base.specs.FileWords.{strings_held, words_at}
 use Rattle.command_base.proofs.ReadInTurn.{first_stops, behind_stops, behind_read, last_read}
 use Rattle.resource_tool.specs.BoxFiles.{box_files, goal_files}
