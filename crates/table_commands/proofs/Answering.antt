@@ -1,12 +1,15 @@
 -- What a command answers: of files that are not read, where what it prints names the paths of these, and of what is read.
 use Rattle.std.proofs.Common.{◌≡◌, ◌≢◌, ℕ, List, Option, Some, None, IfSome, Result, Ok, Err, MatchResult, refl, sym, ap, subst, inl, inr}
 use Rattle.contract_words.specs.Faults.{◌>>=◌}
+use Rattle.command_base.specs.answer_text.bags_themes.declared.bag_fault.BagFault.{BagFault}
+use Rattle.command_base.specs.answer_text.bags_themes.declared.bag_fault.BagFault.TheVariants as of_bag
 use Rattle.command_base.specs.declared.fault.ToolFault.{ToolFault}
 use Rattle.command_base.specs.declared.fault.ToolFault.TheVariants.{OutOfMemory, Write}
 use Rattle.command_base.specs.declared.status.Status.{Status}
 use Rattle.command_base.specs.declared.stop.Stop.{Stop}
 use Rattle.command_base.specs.declared.stop.Stop.TheVariants.{Tool}
 use Rattle.command_base.specs.Output.{Output, Prints}
+use Rattle.table_commands.specs.BagOutput.{no_bag}
 use Rattle.table_commands.specs.MapOutput.{MapOutput, PrintsBoth}
 use Rattle.command_base.specs.Stop.{StopOf, stop_of, tool}
 use Rattle.command_base.specs.Inputs.{Places}
@@ -18,18 +21,6 @@ pub stops_unread : {X Y : Type 0} (Command : Result Y StopOf → X → Result St
     → IfSome known (λ places. CarriesOut (Command (read places)) (read places >>= f) (Err stop))
 stops_unread Command f None read stop given = tt
 stops_unread {X} {Y} Command f (Some places) read stop given = λ told. inl (ap (λ (r : Result Y StopOf). r >>= f) (given told))
-
--- ---- of what is read
-
-pub done_on_read : {X : Type 0} (Command : X → Result Status ToolFault → Type 0) (known : Option Places) (read : Places → Result X StopOf) (held : X) (status : Status)
-    → IfSome known (λ places. read places ≡ Ok held) → Command held (Ok status) → IfSome known (λ places. CarriesOut Command (read places) (Ok status))
-done_on_read Command None read held status is done = tt
-done_on_read Command (Some places) read held status is done = (held, is, done)
-
-pub fault_on_read : {X : Type 0} (Command : X → Result Status ToolFault → Type 0) (known : Option Places) (read : Places → Result X StopOf) (held : X) (fault : ToolFault)
-    → IfSome known (λ places. read places ≡ Ok held) → Command held (Err fault) → IfSome known (λ places. CarriesOut Command (read places) (Err (Tool fault)))
-fault_on_read Command None read held fault is done = tt
-fault_on_read Command (Some places) read held fault is done = λ told. inr (held, fault, is, refl, done)
 
 -- ---- what a fault leaves of the streams
 
@@ -58,3 +49,42 @@ pub kept_by_done : {W : Type 0} (contents : W → Option (List ℕ)) (old new : 
 kept_by_done contents old new meant (Ok status) result printed same = subst (λ (r : Result Status Stop). IsKept old new r) (sym same) tt
 kept_by_done contents old new meant (Err fault) result printed same =
     subst (λ (r : Result Status Stop). IsKept old new r) (sym same) (kept_at_fault contents old new fault meant printed)
+
+pub answered_on_read : {X : Type 0} (Command : X → Result Status ToolFault → Type 0) (known : Option Places) (read : Places → Result X StopOf) (held : X) (done : Result Status ToolFault)
+    (result : Result Status Stop) → IfSome known (λ places. read places ≡ Ok held) → Command held done
+    → MatchResult done (λ status. result ≡ Ok status) (λ fault. result ≡ Err (Tool fault)) → IfSome known (λ places. CarriesOut Command (read places) result)
+answered_on_read Command None read held done result is put same = tt
+answered_on_read Command (Some places) read held done result is put same = carried_out Command (read places) held done result is put same
+
+pub both_kept_by_done : {W V : Type 0} (contents : W → Option (List ℕ)) (says : V → Option (List ℕ)) (old new : W) (before after : V) (meant : Result MapOutput ToolFault)
+    (done : Result Status ToolFault) (result : Result Status Stop) → PrintsBoth contents says old new before after done meant
+    → MatchResult done (λ status. result ≡ Ok status) (λ fault. result ≡ Err (Tool fault)) → (IsKept old new result) × (IsKept before after result)
+both_kept_by_done contents says old new before after meant (Ok status) result printed same =
+    subst (λ (r : Result Status Stop). (IsKept old new r) × (IsKept before after r)) (sym same) (tt, tt)
+both_kept_by_done contents says old new before after meant (Err fault) result printed same =
+    let kept = both_kept_at_fault contents says old new before after fault meant printed in
+    subst (λ (r : Result Status Stop). (IsKept old new r) × (IsKept before after r)) (sym same) ((λ told. (kept told).0), (λ told. (kept told).1))
+
+-- ---- why there is no bag
+
+pub printed_unless : {W : Type 0} (contents : W → Option (List ℕ)) (old new : W) (result : Result Status ToolFault) (fault : BagFault) (meant : Output)
+    → (fault ≢ of_bag.OutOfMemory → Prints contents old new result (Ok (no_bag fault))) → (fault ≡ of_bag.OutOfMemory → (result ≡ Err OutOfMemory) × (new ≡ old))
+    → (fault ≢ of_bag.OutOfMemory → meant ≡ no_bag fault) → Prints contents old new result (Ok meant)
+printed_unless contents old new result of_bag.OutOfMemory meant printed memory is = rw (memory refl).0 (memory refl).1
+printed_unless contents old new result of_bag.Absent meant printed memory is = rw (is (λ same. cc)) (printed (λ same. cc))
+printed_unless contents old new result of_bag.Plain meant printed memory is = rw (is (λ same. cc)) (printed (λ same. cc))
+printed_unless contents old new result of_bag.BagDepth meant printed memory is = rw (is (λ same. cc)) (printed (λ same. cc))
+
+-- ---- of an input that is refused, before anything is written
+
+pub refused : {W : Type 0} (contents : W → Option (List ℕ)) (stream : W) (fault : ToolFault) (meant : Result Output ToolFault) → (fault ≢ OutOfMemory → meant ≡ Err fault)
+    → fault ≢ Write → Prints contents stream stream (Err fault) meant
+refused contents stream OutOfMemory meant is of_input = refl
+refused contents stream Write meant is of_input = absurd (of_input refl)
+refused contents stream fault meant is of_input = (is (λ same. cc), refl)
+
+pub both_refused : {W V : Type 0} (contents : W → Option (List ℕ)) (says : V → Option (List ℕ)) (stream : W) (errors : V) (fault : ToolFault) (meant : Result MapOutput ToolFault)
+    → (fault ≢ OutOfMemory → meant ≡ Err fault) → fault ≢ Write → PrintsBoth contents says stream stream errors errors (Err fault) meant
+both_refused contents says stream errors OutOfMemory meant is of_input = (refl, refl)
+both_refused contents says stream errors Write meant is of_input = absurd (of_input refl)
+both_refused contents says stream errors fault meant is of_input = (is (λ same. cc), refl, refl)

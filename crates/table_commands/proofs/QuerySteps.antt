@@ -47,4 +47,27 @@ pub StatusAllBut-end : (stack : List LayerOf) (device : List ℕ) (status : Stat
 StatusAllBut-end stack device status i ids before past =
     sym (ap (λ (left : List ResId). if list_any (is_unresolved_for stack device) left then Negative else status) (drop_all i ids past)) ∙ before.others
 
+-- ---- whether one of the ids that are left ends at no value
+
+first-left : (test : ResId → Bool) (id : ResId) (ids : List ResId) (missing : Bool) → test id ≡ missing → list_any test (id ∷ ids) ≡ (if missing then true else list_any test ids)
+first-left test id ids true given = grind (arith, given)
+first-left test id ids false given = grind (arith, given)
+
+left-at : (stack : List LayerOf) (device : List ℕ) (i : ℕ) (ids : List ResId) (d : ResId) (end : End) (missing : Bool) → i < length ids → end ≡ end_for stack device (get_or ids i d)
+    → missing ≡ is_unresolved end
+    → list_any (is_unresolved_for stack device) (drop i ids) ≡ (if missing then true else list_any (is_unresolved_for stack device) (drop (i + 1) ids))
+left-at stack device i ids d end missing on is told =
+    ap (list_any (is_unresolved_for stack device)) (drop_more ids i d on)
+    ∙ first-left (is_unresolved_for stack device) (get_or ids i d) (drop (i + 1) ids) missing (ap is_unresolved (sym is) ∙ sym told)
+
+pub any-next : (stack : List LayerOf) (device : List ℕ) (i : ℕ) (ids : List ResId) (d : ResId) (end : End) (missing : Bool)
+    → list_any (is_unresolved_for stack device) (drop i ids) ≡ list_any (is_unresolved_for stack device) ids → i < length ids → end ≡ end_for stack device (get_or ids i d)
+    → missing ≡ is_unresolved end → missing ≡ false → list_any (is_unresolved_for stack device) (drop (i + 1) ids) ≡ list_any (is_unresolved_for stack device) ids
+any-next stack device i ids d end missing before on is told not = (rw not at (sym (left-at stack device i ids d end missing on is told))) ∙ before
+
+pub any-found : (stack : List LayerOf) (device : List ℕ) (i : ℕ) (ids : List ResId) (d : ResId) (end : End) (missing : Bool)
+    → list_any (is_unresolved_for stack device) (drop i ids) ≡ list_any (is_unresolved_for stack device) ids → i < length ids → end ≡ end_for stack device (get_or ids i d)
+    → missing ≡ is_unresolved end → missing ≡ true → true ≡ list_any (is_unresolved_for stack device) ids
+any-found stack device i ids d end missing before on is told found = (rw found at (sym (left-at stack device i ids d end missing on is told))) ∙ before
+
 pub ruleset query_steps = (PutsAllBut-none, PutsAllBut-end, StatusAllBut-none, StatusAllBut-end, drop_all)

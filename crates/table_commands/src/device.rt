@@ -9,6 +9,7 @@ ghost use Rattle.command_base.specs.declared.fault.ToolFault.TheVariants.{Write}
 ghost use Rattle.config_words.specs.JsonText.{device_json};
 ghost use Rattle.table_commands.specs.DeviceOutput.{PrintsDevice, config_of, device_form};
 
+use crate::answered::answered;
 use crate::text::print_text;
 use command_base::{Device, DeviceText, Inputs, LocaleRule, Status, Stop, ToolFault};
 use config_words::{NoLine, print_config_by, write_device_json};
@@ -39,7 +40,7 @@ impl<'a> DeviceForm<'a> {
         ensures unwritten { IsKept out.old out.new result }
     {
         let text = self.text(alloc, inputs)?;
-        Ok(print_text(&text, out)?)
+        answered(print_text(&text, out))
     }
 
     // The device in its other form.

@@ -6,6 +6,7 @@ ghost use Rattle.command_base.specs.declared.fault.ToolFault.TheVariants.{Write}
 ghost use Rattle.table_commands.specs.TableOutput.{dump_output, dump_printed, PrintsDump};
 ghost use Rattle.command_base.specs.CarriesOut.{IsKept};
 
+use crate::answered::answered;
 use crate::text::print_text;
 use answer_text::dump_text;
 use command_base::{Inputs, Status, Stop, Table, ToolFault, table_file};
@@ -33,7 +34,7 @@ impl<'a> Dump<'a> {
         ensures unwritten { IsKept out.old out.new result }
     {
         let file = table_file(inputs, self.table)?;
-        Ok(dump_printed(alloc, self.android, file.table(), out)?)
+        answered(dump_printed(alloc, self.android, file.table(), out))
     }
 }
 

@@ -11,6 +11,7 @@ ghost use Rattle.command_base.specs.declared.fault.ToolFault.TheVariants.{Write}
 ghost use Rattle.table_commands.specs.TableOutput.{ListsIds, id_line, ids_output, ids_text, listed_ids};
 ghost use Rattle.command_base.specs.CarriesOut.{IsKept};
 
+use crate::answered::answered;
 use answer_text::{write_id, write_its_name};
 use command_base::{
     Inputs, LayerFiles, LayerParts, ResId, Stack, Status, Stop, ToolFault, open_stack,
@@ -38,7 +39,7 @@ impl<'a> Ids<'a> {
         ensures unwritten { IsKept out.old out.new result }
     {
         let files = LayerFiles::read(alloc, inputs, self.layers)?;
-        Ok(ids_of_files(alloc, &files, out)?)
+        answered(ids_of_files(alloc, &files, out))
     }
 }
 

@@ -8,6 +8,7 @@ ghost use Rattle.command_base.specs.MapText.{MadeMapReadsBack, ReadsBack};
 ghost use Rattle.table_commands.specs.MapOutput.{PrintsBoth, PrintsMap, map_files, map_held, overlay_held, map_output, output_of_map};
 ghost use Rattle.command_base.specs.CarriesOut.{IsKept};
 
+use crate::answered::answered;
 use answer_text::write_on_line;
 use command_base::{
     Inputs, MadeMap, Status, Stop, Table, TableFile, ToolFault, layer_table_file, open_table,
@@ -45,7 +46,7 @@ impl<'a> Map<'a> {
         ensures unsaid { IsKept errors.old errors.new result }
     {
         let files = MapFiles::read(inputs, self.target, self.overlay)?;
-        Ok(map_bytes(alloc, files.target.table(), files.overlay(), out, errors)?)
+        answered(map_bytes(alloc, files.target.table(), files.overlay(), out, errors))
     }
 }
 

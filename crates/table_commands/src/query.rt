@@ -197,8 +197,12 @@ fn write_notation<W: Write + Drop>(
 fn has_unresolved(stack: &Stack<'_>, device: &Device, ids: &[ResId]) -> bool
     ensures { result ≡ list_any (is_unresolved_for stack.now (device_numbers device.now)) ids.now }
 {
-    ids.iter()
-        .any(|id| is_unresolved(resolve(stack, *id, device)))
+    for id in ids {
+        if is_unresolved(resolve(stack, *id, device)) {
+            return true;
+        }
+    }
+    false
 }
 
 // Writes a line for each id, and one with the number of rows that are set aside.

@@ -1,6 +1,9 @@
+use Rattle.contract_words.proofs.TextSteps.{PutsAllBut-end}
+use Rattle.std.proofs.lemmas.List.{drop_all}
+use Rattle.table_commands.specs.QueryOutput.{query_text}
 use Rattle.std.proofs.Common.{◌≡◌, arith}
 use Rattle.command_base.proofs.answer_text_proofs.ItemSteps.{item-next}
-use Rattle.table_commands.proofs.QuerySteps.{status-next, status_after}
+use Rattle.table_commands.proofs.QuerySteps.{status-next, status_after, StatusAllBut-end}
 use Rattle.table_commands.proofs.query.write_ends.Goals as goal
 use Rattle.table_commands.proofs.query.write_ends.Goals.{then-is_unresolved, else-is_unresolved}
 
@@ -15,3 +18,12 @@ loop-id-preserved g c =
       texts = item-next _ _ _ _ _ _ _ c.loop-id.invariant.texts (omega arith) c.in_ok-end.ensures.text;
       status = status-next _ _ _ _ _ _ _ _ _ c.loop-id.invariant.status (omega arith) c.in_ok-end.ensures.end c.is_unresolved.ensures after;
     }
+
+pub returns-clause-status : goal.returns-clause-status
+returns-clause-status g c = StatusAllBut-end _ _ _ _ _ c.loop-id.invariant.status (omega arith)
+
+pub returns-clause-text : goal.returns-clause-text
+unfolding query_text
+returns-clause-text g c =
+    let aside = rw (c.rows_set_aside.ensures, c.of-rule.ensures, c.locale.ensures.value, c.stack.ensures) at c.in_ok-set_aside_line.ensures in
+    PutsAllBut-end _ _ _ _ _ _ _ c.loop-id.invariant.texts (drop_all c.loop-id.id-index c.args.ids.now (omega arith)) aside

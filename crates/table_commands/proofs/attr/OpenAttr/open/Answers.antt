@@ -14,3 +14,9 @@ unfolding attr_opened
 returns-in_err-sets c =
     let p = err_from_is_err_and c.from_residual.result c.from_residual.ensures.1 in
     rw (p.1, p.2) (λ told. rw (c.in_err-sets.ensures told) refl)
+
+pub returns : goal.returns
+unfolding attr_opened
+returns c =
+    let styles = rw c.deref.ensures.value at c.in_ok-styles.ensures in
+    rw (c.in_ok-sets.ensures, c.in_ok-opened.ensures, c.in_ok-attr.ensures, styles) refl

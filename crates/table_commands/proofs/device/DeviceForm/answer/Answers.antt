@@ -1,4 +1,4 @@
-use Rattle.std.proofs.Common.{ℕ, List, Ok, Err, Result, subst}
+use Rattle.std.proofs.Common.{ℕ, List, Ok, Result}
 use Rattle.std.proofs.lemmas.Result.{err_from_is_err_and}
 use Rattle.table_commands.specs.DeviceOutput.{as_output, device_form}
 use Rattle.command_base.specs.declared.status.Status.{Status}
@@ -6,7 +6,7 @@ use Rattle.command_base.specs.declared.fault.ToolFault.{ToolFault}
 use Rattle.command_base.specs.FilesSeen.{bytes_of}
 use Rattle.command_base.specs.Output.{Prints}
 use Rattle.command_base.specs.Inputs.{Places}
-use Rattle.table_commands.proofs.Answering.{done_on_read, fault_on_read, kept_at_fault}
+use Rattle.table_commands.proofs.Answering.{answered_on_read, kept_by_done}
 use Rattle.command_base.proofs.CarriedOut.{unread_stops}
 use Rattle.table_commands.proofs.device.DeviceForm.answer.Goals as goal
 
@@ -17,25 +17,14 @@ returns-in_err-text-clause-answers g c =
     let p = err_from_is_err_and c.from_residual.result c.from_residual.ensures.1 in
     rw (p.1, p.2) (unread_stops command (g.I.Inputs.places c.args.inputs.now) read c.in_err-text.field-0.0 c.in_err-text.ensures)
 
-pub returns-in_err-print_text-clause-answers : goal.returns-in_err-print_text-clause-answers
-returns-in_err-print_text-clause-answers g c =
-    let command = λ (text : List ℕ) (done : Result Status ToolFault). Prints g.W.Write.contents c.args.out.now c.print_text.new.out done (Ok (as_output text)) in
-    let read = λ (places : Places). device_form places c.args.self.now.locales c.args.self.now.config c.args.self.now.device.now in
-    let fault = c.in_err-print_text.field-0.0 in
-    let p = err_from_is_err_and c.from_residual-in_err-print_text.result c.from_residual-in_err-print_text.ensures.1 in
-    rw (p.1, p.2)
-    (fault_on_read command (g.I.Inputs.places c.args.inputs.now) read (bytes_of c.in_ok-text.text) fault c.in_ok-text.ensures
-    (subst (λ (text : List ℕ). command text (Err fault)) c.deref.ensures.value c.in_err-print_text.ensures))
-
-pub returns-in_err-print_text-clause-unwritten : goal.returns-in_err-print_text-clause-unwritten
-returns-in_err-print_text-clause-unwritten g c =
-    let p = err_from_is_err_and c.from_residual-in_err-print_text.result c.from_residual-in_err-print_text.ensures.1 in
-    rw (p.1, p.2) (kept_at_fault g.W.Write.contents c.args.out.now c.print_text.new.out c.in_err-print_text.field-0.0 _ c.in_err-print_text.ensures)
-
 pub returns-clause-answers : goal.returns-clause-answers
 returns-clause-answers g c =
-    let command = λ (text : List ℕ) (done : Result Status ToolFault). Prints g.W.Write.contents c.args.out.now c.print_text.new.out done (Ok (as_output text)) in
     let read = λ (places : Places). device_form places c.args.self.now.locales c.args.self.now.config c.args.self.now.device.now in
-    let status = c.in_ok-print_text.field-0 in
-    done_on_read command (g.I.Inputs.places c.args.inputs.now) read (bytes_of c.in_ok-text.text) status c.in_ok-text.ensures
-    (subst (λ (text : List ℕ). command text (Ok status)) c.deref.ensures.value c.in_ok-print_text.ensures)
+    answered_on_read
+    (λ (text : List ℕ) (done : Result Status ToolFault). Prints g.W.Write.contents c.args.out.now c.print_text.new.out done (Ok (as_output text)))
+    (g.I.Inputs.places c.args.inputs.now) read (bytes_of c.in_ok-text.text) c.print_text.result c.answered.result c.in_ok-text.ensures
+    (rw c.deref.ensures.value at c.print_text.ensures) c.answered.ensures
+
+pub returns-clause-unwritten : goal.returns-clause-unwritten
+returns-clause-unwritten g c =
+    kept_by_done g.W.Write.contents c.args.out.now c.print_text.new.out _ c.print_text.result c.answered.result c.print_text.ensures c.answered.ensures

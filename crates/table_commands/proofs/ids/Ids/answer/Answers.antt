@@ -7,7 +7,7 @@ use Rattle.command_base.specs.Inputs.{layers_of}
 use Rattle.command_base.specs.Output.{Prints}
 use Rattle.command_base.specs.StackBytes.{LayerBytes}
 use Rattle.table_commands.specs.TableOutput.{ids_output}
-use Rattle.table_commands.proofs.Answering.{done_on_read, fault_on_read, kept_at_fault}
+use Rattle.table_commands.proofs.Answering.{answered_on_read, kept_by_done}
 use Rattle.command_base.proofs.CarriedOut.{unread_stops}
 use Rattle.table_commands.proofs.ids.Ids.answer.Goals as goal
 
@@ -19,22 +19,13 @@ returns-in_err-files-clause-answers g c =
     unread_stops (λ (layers : List LayerBytes) done. Prints g.W.Write.contents out out done (ids_output layers))
     (g.I.Inputs.places c.args.inputs.now) (λ places. layers_of places c.args.self.now.layers.now) c.in_err-files.field-0.0 c.in_err-files.ensures.layers)
 
-pub returns-in_err-ids_of_files-clause-answers : goal.returns-in_err-ids_of_files-clause-answers
-returns-in_err-ids_of_files-clause-answers g c =
-    let command = λ (layers : List LayerBytes) (done : Result Status ToolFault). Prints g.W.Write.contents c.args.out.now c.ids_of_files.new.out done (ids_output layers) in
-    let p = err_from_is_err_and c.from_residual-in_err-ids_of_files.result c.from_residual-in_err-ids_of_files.ensures.1 in
-    rw (p.1, p.2)
-    (fault_on_read command (g.I.Inputs.places c.args.inputs.now) (λ places. layers_of places c.args.self.now.layers.now) (layers_held c.in_ok-files.files) c.in_err-ids_of_files.field-0.0
-    c.in_ok-files.ensures.layers c.in_err-ids_of_files.ensures)
-
-pub returns-in_err-ids_of_files-clause-unwritten : goal.returns-in_err-ids_of_files-clause-unwritten
-returns-in_err-ids_of_files-clause-unwritten g c =
-    let p = err_from_is_err_and c.from_residual-in_err-ids_of_files.result c.from_residual-in_err-ids_of_files.ensures.1 in
-    rw (p.1, p.2)
-    (kept_at_fault g.W.Write.contents c.args.out.now c.ids_of_files.new.out c.in_err-ids_of_files.field-0.0 (ids_output (layers_held c.in_ok-files.files)) c.in_err-ids_of_files.ensures)
-
 pub returns-clause-answers : goal.returns-clause-answers
 returns-clause-answers g c =
-    let command = λ (layers : List LayerBytes) (done : Result Status ToolFault). Prints g.W.Write.contents c.args.out.now c.ids_of_files.new.out done (ids_output layers) in
-    done_on_read command (g.I.Inputs.places c.args.inputs.now) (λ places. layers_of places c.args.self.now.layers.now) (layers_held c.in_ok-files.files) c.in_ok-ids_of_files.field-0
-    c.in_ok-files.ensures.layers c.in_ok-ids_of_files.ensures
+    answered_on_read
+    (λ (layers : List LayerBytes) (done : Result Status ToolFault). Prints g.W.Write.contents c.args.out.now c.ids_of_files.new.out done (ids_output layers))
+    (g.I.Inputs.places c.args.inputs.now) (λ places. layers_of places c.args.self.now.layers.now) (layers_held c.in_ok-files.files) c.ids_of_files.result c.answered.result
+    c.in_ok-files.ensures.layers c.ids_of_files.ensures c.answered.ensures
+
+pub returns-clause-unwritten : goal.returns-clause-unwritten
+returns-clause-unwritten g c =
+    kept_by_done g.W.Write.contents c.args.out.now c.ids_of_files.new.out _ c.ids_of_files.result c.answered.result c.ids_of_files.ensures c.answered.ensures

@@ -14,3 +14,9 @@ unfolding query_opened
 returns-in_err-sets c =
     let p = err_from_is_err_and c.from_residual.result c.from_residual.ensures.1 in
     rw (p.1, p.2) (λ told. rw (c.in_err-sets.ensures told) refl)
+
+pub returns : goal.returns
+unfolding query_opened
+returns c =
+    let ids = rw c.deref.ensures.value at c.in_ok-ids.ensures in
+    rw (c.in_ok-sets.ensures, c.in_ok-opened.ensures, ids) refl

@@ -13,18 +13,16 @@ returns-in_err-files-clause-answers g c =
     let query = c.args.self.now in
     let out = c.args.out.now in
     let p = err_from_is_err_and c.from_residual.result c.from_residual.ensures.1 in
-    rw (p.1, p.2, ← c.deref.ensures.value) (
+    rw (p.1, p.2) (
     stops_unread (λ read (asked : OpenQueryOf) done. Prints g.W.Write.contents out out done (Ok (query_printed query.android query.names (paths_asked read) asked)))
     (λ files. query_opened query.locales files.layers files.device files.words)
-    (g.I.Inputs.places c.args.inputs.now) (λ places. asked_files places query.layers.now query.device.now (map (λ word. word.now) c.deref.result.now))
-    c.in_err-files.field-0.0 c.in_err-files.ensures
+    (g.I.Inputs.places c.args.inputs.now) (λ places. asked_files places query.layers.now query.device.now (map (λ word. word.now) query.words.items))
+    c.in_err-files.field-0.0 (rw c.deref.ensures.value at c.in_err-files.ensures)
     )
 
 pub returns-clause-answers : goal.returns-clause-answers
 returns-clause-answers g c =
     let query = c.args.self.now in
-    rw (← c.deref.ensures.value) (
     read_then (λ read. QueriesFiles g.W.Write.contents c.args.out.now c.answer_of.new.out query read c.answer_of.result)
-    (g.I.Inputs.places c.args.inputs.now) (λ places. asked_files places query.layers.now query.device.now (map (λ word. word.now) c.deref.result.now))
-    (asked_held c.in_ok-files.files) c.in_ok-files.ensures c.answer_of.ensures.answers
-    )
+    (g.I.Inputs.places c.args.inputs.now) (λ places. asked_files places query.layers.now query.device.now (map (λ word. word.now) query.words.items))
+    (asked_held c.in_ok-files.files) (rw c.deref.ensures.value at c.in_ok-files.ensures) c.answer_of.ensures.answers
