@@ -62,13 +62,13 @@ impl Stop<'_> {
         match self {
             Stop::NotText => errors.write_all(b"command: a word is not UTF-8\n"),
             Stop::NoWords(path) => write_line("command: no words in ", path, errors),
-            Stop::WordOfFile(word) => write_bad_word(word.as_str(), errors),
+            Stop::WordOfFile(word) => write_shown("command: bad id ", word.as_bytes(), errors),
             Stop::File(path) => write_line("file: ", path, errors),
-            Stop::LayerFile(path) => write_line_of_file("file: ", path.as_str(), errors),
-            Stop::NoResource(name) => write_no_resource(name.as_str(), errors),
-            Stop::DevicePart(part) => write_device_part(part, errors),
+            Stop::LayerFile(path) => write_shown("file: ", path.as_bytes(), errors),
+            Stop::NoResource(name) => write_shown("no resource ", name.as_bytes(), errors),
+            Stop::DevicePart(part) => write_shown("refused: device: Qualifier ", part, errors),
             Stop::NoWord(coord) => write_line("no word ", coord.name(), errors),
-            Stop::TwoResources(names) => write_two_resources(names.as_str(), errors),
+            Stop::TwoResources(names) => write_shown("two resources ", names.as_bytes(), errors),
             Stop::Tool(fault) => fault_text(fault, errors),
         }
     }
@@ -87,32 +87,6 @@ impl Stop<'_> {
     }
 }
 
-fn write_bad_word<E: Write + Drop>(word: &str, errors: &mut E) -> io::Result<()>
-    ensures { Writes E.contents errors.old errors.new result (codes "command: bad id " ++ in_one_line word.now ++ 10 ∷ []) }
-{
-    write_line_of_file("command: bad id ", word, errors)
-}
-
-fn write_no_resource<E: Write + Drop>(name: &str, errors: &mut E) -> io::Result<()>
-    ensures { Writes E.contents errors.old errors.new result (codes "no resource " ++ in_one_line name.now ++ 10 ∷ []) }
-{
-    write_line_of_file("no resource ", name, errors)
-}
-
-fn write_device_part<E: Write + Drop>(part: &[u8], errors: &mut E) -> io::Result<()>
-    ensures { Writes E.contents errors.old errors.new result (codes "refused: device: Qualifier " ++ in_one_line part.now ++ 10 ∷ []) }
-{
-    errors.write_all(b"refused: device: Qualifier ")?;
-    write_in_one_line(part, errors)?;
-    errors.write_all(b"\n")
-}
-
-fn write_two_resources<E: Write + Drop>(names: &str, errors: &mut E) -> io::Result<()>
-    ensures { Writes E.contents errors.old errors.new result (codes "two resources " ++ in_one_line names.now ++ 10 ∷ []) }
-{
-    write_line_of_file("two resources ", names, errors)
-}
-
 fn write_line<E: Write + Drop>(before: &str, text: &str, errors: &mut E) -> io::Result<()>
     ensures { Writes E.contents errors.old errors.new result (before.now ++ text.now ++ 10 ∷ []) }
 {
@@ -121,12 +95,12 @@ fn write_line<E: Write + Drop>(before: &str, text: &str, errors: &mut E) -> io::
     errors.write_all(b"\n")
 }
 
-// The same of a text that a file may have.
-fn write_line_of_file<E: Write + Drop>(before: &str, text: &str, errors: &mut E) -> io::Result<()>
+// The same of a text that a file or a device may have.
+fn write_shown<E: Write + Drop>(before: &str, text: &[u8], errors: &mut E) -> io::Result<()>
     ensures { Writes E.contents errors.old errors.new result (before.now ++ in_one_line text.now ++ 10 ∷ []) }
 {
     errors.write_all(before.as_bytes())?;
-    write_in_one_line(text.as_bytes(), errors)?;
+    write_in_one_line(text, errors)?;
     errors.write_all(b"\n")
 }
 

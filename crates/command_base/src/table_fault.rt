@@ -21,8 +21,7 @@ pub(crate) fn write_table_fault<W: Write + Drop>(fault: TableFault, out: &mut W)
 }
 
 fn names_and_place(fault: TableFault) -> (&'static str, Option<usize>)
-    ensures names { result.0.now ≡ (names_and_place fault).0 }
-    ensures place { result.1 ≡ (names_and_place fault).1 }
+    ensures { (result.0.now, result.1) ≡ names_and_place fault }
 {
     match fault {
         TableFault::Chunk(ChunkFault::Truncated(place)) => ("Chunk Truncated", Some(place)),

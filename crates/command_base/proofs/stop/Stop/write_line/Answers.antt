@@ -1,0 +1,5 @@
+use Rattle.command_base.proofs.stop.Stop.write_line.Goals as goal
+
+pub returns-in-TwoResources : goal.returns-in-TwoResources
+returns-in-TwoResources g c =
+    rw c.in-TwoResources.is (rw c.as_bytes-in-TwoResources.ensures.value at c.write_shown-in-TwoResources.ensures)
