@@ -1,5 +1,5 @@
 -- What is meant where something of what is read in turn stops, or is read.
-use Rattle.std.proofs.Common.{◌≡◌, ℕ, Bool, false, List, ◌++◌, length, map, Option, Some, Result, Ok, Err, sym, ap, ◌∙◌}
+use Rattle.std.proofs.Common.{◌≡◌, ℕ, Bool, false, List, length, map, Option, Some, Result, Ok, sym, ap, ◌∙◌}
 use Rattle.std.specs.List.{enumerate_from}
 use Rattle.std.specs.Prelude.{if◌then◌else◌}
 use Rattle.apk_member.specs.declared.fault.ApkFault.{ApkFault}

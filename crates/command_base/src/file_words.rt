@@ -1,6 +1,6 @@
 //! The words of an argument that takes several.
 
-ghost use Rattle.std.specs.Prelude.{◌≡◌, ◌++◌, map, IfSome, OnOk, string_bytes};
+ghost use Rattle.std.specs.Prelude.{◌++◌, map, IfSome, Ok, string_bytes};
 ghost use Rattle.contract_words.specs.Sequences.{joined_each, with_front};
 ghost use Rattle.json_input.specs.Each.{each};
 ghost use Rattle.command_base.specs.FileWords.{words_at, words_of_file, set_asked, goal_asked, strings_held, sets_held, goals_held};
@@ -12,7 +12,7 @@ use crate::fault::ToolFault;
 use crate::inputs::{Inputs, file_bytes};
 use crate::stop::Stop;
 use names::{GoalFault, NamedGoal, NamedSet, file_path, words_in_text};
-use std::alloc::{AllocError, Global};
+use std::alloc::Global;
 use std::str;
 
 /// The words of an argument that takes several, and in the place of each that names a file those of the file, which has to
@@ -47,7 +47,7 @@ fn push_words<'a, I: Inputs>(
             let bytes = file_bytes(inputs, path)?;
             push_words_of_file(alloc, path, &bytes, asked)
         }
-        None => Ok(push_each(alloc, &[word], asked)?),
+        None => push_each(alloc, &[word], asked),
     }
 }
 
@@ -66,14 +66,15 @@ fn push_words_of_file<'a>(
             if words.is_empty() {
                 return Err(Stop::NoWords(path));
             }
-            Ok(push_each(alloc, &words, asked)?)
+            push_each(alloc, &words, asked)
         }
         Err(_) => Err(Stop::NotText),
     }
 }
 
-fn push_each(alloc: Global, words: &[&str], asked: &mut Vec<String>) -> Result<(), AllocError>
-    ensures { OnOk result (strings_held asked.new ≡ strings_held asked.old ++ map (λ word. word.now) words.now) }
+fn push_each<'a>(alloc: Global, words: &[&str], asked: &mut Vec<String>) -> Result<(), Stop<'a>>
+    ensures { GivesOrStops (λ _. strings_held asked.new) result
+        (Ok (strings_held asked.old ++ map (λ word. word.now) words.now)) }
 {
     for word in words {
         asked.push(String::from_str(alloc, *word)?)?;

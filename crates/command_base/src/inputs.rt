@@ -2,20 +2,21 @@
 
 ghost use Rattle.std.specs.Prelude.{◌≡◌, ◌≢◌, Option, None, IfSome, string_bytes};
 ghost use Rattle.std.specs.IoError.{error_kind};
+ghost use Rattle.std.specs.Option.{option_map_or};
 ghost use Rattle.command_base.specs.Input.{ReadsWithin};
+ghost use Rattle.command_base.specs.declared.fault.ToolFault.TheVariants.{Apk, LayerApk};
 ghost use Rattle.command_base.specs.declared.input.InputFault.TheVariants as input_faults;
 ghost use Rattle.contract_words.specs.Exact.{GivesOr};
 ghost use Rattle.command_base.specs.Place.{place_of};
-ghost use Rattle.command_base.specs.Inputs.{Places, file_of, layer_file_of, layer_table_of, listed_table_of, most_bytes, or_stop, stop_at, table_of, table_place};
+ghost use Rattle.command_base.specs.Inputs.{Places, file_of, layer_file_of, layer_table_of, listed_table_of, most_bytes, stop_at, table_at, table_of};
 ghost use Rattle.command_base.specs.FilesSeen.{bytes_of};
 ghost use Rattle.command_base.specs.Stop.{GivesOrStops, stop_of};
-ghost use Rattle.command_base.specs.Stop as stops;
 
 use crate::fault::ToolFault;
 use crate::input::{InputFault, read_input};
 use crate::place::Place;
 use crate::stop::Stop;
-use apk_member::TableFile;
+use apk_member::{ApkFault, TableFile};
 use std::alloc::Global;
 use std::io::{self, ErrorKind, Read};
 use std::rt::{Env, Files};
@@ -90,19 +91,13 @@ fn read_within_limit<R: Read>(alloc: Global, reader: &mut R) -> Result<Vec<u8>, 
 }
 
 /// The file of a table, at a path or on the standard input.
-#[tactic(auto, unfolding(crate::specs::Inputs::table_at))]
 pub fn table_file<'a, I: Inputs>(inputs: &I, path: &'a str) -> Result<TableFile, Stop<'a>>
     ensures { IfSome (I.places inputs.now) (λ places. GivesOrStops (λ table. table) result (table_of places path.entry.now)) }
 {
-    let bytes = table_bytes(inputs, path)?;
-    match TableFile::of(path, bytes) {
-        Ok(table) => Ok(table),
-        Err(fault) => Err(Stop::Tool(ToolFault::Apk(fault))),
-    }
+    table_at(inputs, None, path)
 }
 
 /// The same of a table that is a layer by itself, which the fault of an apk names.
-#[tactic(auto, unfolding(crate::specs::Inputs::table_at))]
 pub fn layer_table_file<'a, I: Inputs>(
     inputs: &I,
     layer: usize,
@@ -110,21 +105,34 @@ pub fn layer_table_file<'a, I: Inputs>(
 ) -> Result<TableFile, Stop<'a>>
     ensures { IfSome (I.places inputs.now) (λ places. GivesOrStops (λ table. table) result (layer_table_of layer places path.entry.now)) }
 {
-    let bytes = table_bytes(inputs, path)?;
-    match TableFile::of(path, bytes) {
-        Ok(table) => Ok(table),
-        Err(fault) => Err(Stop::Tool(ToolFault::LayerApk(layer, fault))),
+    table_at(inputs, Some(layer), path)
+}
+
+#[tactic(auto, unfolding(crate::specs::Inputs::table_at))]
+fn table_at<'a, I: Inputs>(
+    inputs: &I,
+    layer: Option<usize>,
+    path: &'a str,
+) -> Result<TableFile, Stop<'a>>
+    ensures { IfSome (I.places inputs.now) (λ places. GivesOrStops (λ table. table) result
+        (table_at (λ fault. option_map_or (λ place. LayerApk place fault) layer (Apk fault)) places path.entry.now)) }
+{
+    match inputs.read(Place::of_table(path)) {
+        Ok(bytes) => match TableFile::of(path, bytes) {
+            Ok(table) => Ok(table),
+            Err(fault) => Err(Stop::Tool(fault_of_apk(layer, fault))),
+        },
+        Err(fault) => Err(stop_at(Stop::File(path), fault)),
     }
 }
 
-// The bytes of the file of a table.
-fn table_bytes<'a, I: Inputs>(inputs: &I, path: &'a str) -> Result<Vec<u8>, Stop<'a>>
-    ensures { IfSome (I.places inputs.now) (λ places. GivesOrStops bytes_of result
-        (or_stop (stop_at (stops.file path.entry.now)) (places (table_place path.entry.now)))) }
+// The fault of an apk, which is a layer or stands alone.
+fn fault_of_apk(layer: Option<usize>, fault: ApkFault) -> ToolFault
+    ensures { result ≡ option_map_or (λ place. LayerApk place fault) layer (Apk fault) }
 {
-    match inputs.read(Place::of_table(path)) {
-        Ok(bytes) => Ok(bytes),
-        Err(fault) => Err(stop_at(Stop::File(path), fault)),
+    match layer {
+        Some(place) => ToolFault::LayerApk(place, fault),
+        None => ToolFault::Apk(fault),
     }
 }
 

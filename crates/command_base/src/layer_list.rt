@@ -1,9 +1,8 @@
 //! Lists of layers: which files the layers of a stack are.
 
-ghost use Rattle.std.specs.Prelude.{◌≡◌, map, length, nat_lt, IfOk};
+ghost use Rattle.std.specs.Prelude.{◌≡◌, map, nat_lt, IfOk};
 ghost use Rattle.command_base.specs.contract_words.Faults.{refuse};
 ghost use Rattle.command_base.specs.contract_words.Exact.{GivesOr};
-ghost use Rattle.command_base.specs.contract_words.FillsIn.{FillsIn};
 ghost use Rattle.serde_json.specs.View.{view};
 ghost use Rattle.command_base.specs.json_input.Each.{each};
 ghost use Rattle.command_base.specs.overlay_map.Layer.{most_layers};
@@ -45,16 +44,14 @@ impl LayerList {
 }
 
 #[tactic(auto, unfolding(crate::specs::LayerList::layers_in_value))]
-fn read_list<'v>(alloc: Global, value: &'v Value) -> Result<LayerList, LayersFault>
+fn read_list(alloc: Global, value: &Value) -> Result<LayerList, LayersFault>
     ensures { GivesOr OutOfMemory listed result (layers_in_value (view value.now)) }
 {
     let Some(items) = list_of(value) else {
         return Err(LayersFault::Shape);
     };
-    let mut layers: Vec<LayerParts<&'v str>> = vec![in alloc; ("", None); items.len()]?;
-    fill_layers(items, &mut layers)?;
-    check_count(layers.len())?;
-    let paths = owned_paths(alloc, &layers)?;
+    let paths = read_each(alloc, items)?;
+    check_count(paths.len())?;
     Ok(LayerList { paths })
 }
 
@@ -69,18 +66,17 @@ pub(crate) fn check_count(count: usize) -> Result<(), LayersFault>
     }
 }
 
-// Fills in the paths of each layer.
-fn fill_layers<'v>(
-    items: &'v [Value],
-    layers: &mut [LayerParts<&'v str>],
-) -> Result<(), LayersFault>
-    requires { length layers.old ≡ length items.now }
-    ensures { FillsIn (map lent_paths_of layers.new) result (each layer_paths_in (map view items.now)) }
+// The paths of each layer.
+#[tactic(auto, using(json_input::proofs::EachSteps::each_item_steps))]
+fn read_each(alloc: Global, items: &[Value]) -> Result<Vec<LayerParts<String>>, LayersFault>
+    ensures { GivesOr OutOfMemory all_paths_of result (each layer_paths_in (map view items.now)) }
 {
-    for (place, item) in items.iter().enumerate() {
-        layers[place] = layer_paths(item)?;
+    let mut paths = Vec::new(alloc);
+    for item in items {
+        let layer = owned_layer(alloc, layer_paths(item)?)?;
+        paths.push(layer)?;
     }
-    Ok(())
+    Ok(paths)
 }
 
 // The paths of one layer.
@@ -96,27 +92,10 @@ fn layer_paths(value: &Value) -> Result<LayerParts<&str>, LayersFault>
     Ok((table, map))
 }
 
-fn owned_paths<'v>(
-    alloc: Global,
-    layers: &[LayerParts<&'v str>],
-) -> Result<Vec<LayerParts<String>>, AllocError>
-    ensures { IfOk result (λ paths. all_paths_of paths ≡ map lent_paths_of layers.now) }
+fn owned_layer(alloc: Global, lent: LayerParts<&str>) -> Result<LayerParts<String>, AllocError>
+    ensures { IfOk result (λ paths. paths_of paths ≡ lent_paths_of lent.entry) }
 {
-    let mut paths = Vec::new(alloc);
-    for (table, map) in layers {
-        let layer = owned_layer(alloc, table, *map)?;
-        paths.push(layer)?;
-    }
-    Ok(paths)
-}
-
-fn owned_layer(
-    alloc: Global,
-    table: &str,
-    map: Option<&str>,
-) -> Result<LayerParts<String>, AllocError>
-    ensures { IfOk result (λ paths. paths_of paths ≡ lent_paths_of (table.entry, map.entry)) }
-{
+    let (table, map) = lent;
     let table = String::from_str(alloc, table)?;
     match map {
         Some(map) => Ok((table, Some(String::from_str(alloc, map)?))),

@@ -1,8 +1,8 @@
 //! Words that are lists of layers themselves, as `framework.apk+carrier.apk,app.apk`.
 
-ghost use Rattle.std.specs.Prelude.{◌≡◌, ◌++◌, ◌∷◌, [], length, map, OnOk, IfOk};
+ghost use Rattle.std.specs.Prelude.{◌≡◌, ◌==◌, ◌<◌, ◌++◌, ◌∷◌, [], length, map, OnOk, IfOk};
 ghost use Rattle.std.specs.List.{slice_split};
-ghost use Rattle.command_base.specs.ListWord.{base_at, ends_as_table, is_comma, is_list_word, is_plus, layers_in_word, overlay_of, with_overlays};
+ghost use Rattle.command_base.specs.ListWord.{base_at, ends_as_table, is_list_word, is_plus, layers_in_word, overlay_of, with_overlays};
 ghost use Rattle.command_base.specs.ListWordSeen.{listed_of};
 
 use apk_member::names_apk;
@@ -37,7 +37,7 @@ pub fn layers_in_word(alloc: Global, word: &str) -> Result<Vec<ListedLayer<'_>>,
     ensures { IfOk result (λ layers. map listed_of layers.items ≡ layers_in_word word.now) }
 {
     let mut layers = Vec::new(alloc);
-    let groups = groups_of(alloc, word)?;
+    let groups = pieces(alloc, word, BASE)?;
     for group in &groups {
         push_group(alloc, group, &mut layers)?;
     }
@@ -54,7 +54,7 @@ fn push_group<'w>(
         ≡ map listed_of layers.old.items ++ with_overlays (length layers.old.items) (slice_split is_plus group.now)) }
 {
     let place = layers.len();
-    let paths = paths_of(alloc, group)?;
+    let paths = pieces(alloc, group, OVERLAY)?;
     let Some((path, overlays)) = paths.split_first() else {
         return Ok(());
     };
@@ -79,16 +79,11 @@ fn push_overlays<'w>(
     Ok(())
 }
 
-fn groups_of(alloc: Global, word: &str) -> Result<Vec<&str>, AllocError>
-    ensures { IfOk result (λ groups. map (λ group. group.now) groups.items ≡ slice_split is_comma word.now) }
+fn pieces(alloc: Global, text: &str, separator: char) -> Result<Vec<&str>, AllocError>
+    requires { separator < 128 }
+    ensures { IfOk result (λ pieces. map (λ piece. piece.now) pieces.items ≡ slice_split (λ byte. byte == separator) text.now) }
 {
-    word.split(BASE).collect(alloc)
-}
-
-fn paths_of(alloc: Global, group: &str) -> Result<Vec<&str>, AllocError>
-    ensures { IfOk result (λ paths. map (λ path. path.now) paths.items ≡ slice_split is_plus group.now) }
-{
-    group.split(OVERLAY).collect(alloc)
+    text.split(separator).collect(alloc)
 }
 
 // Whether a word ends as the path of a table.

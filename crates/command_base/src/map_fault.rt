@@ -11,11 +11,12 @@ use std::io::{self, Write};
 pub(crate) fn write_map_fault<W: Write + Drop>(fault: MapFault, out: &mut W) -> io::Result<()>
     ensures { Writes W.contents out.old out.new result (map_fault_text fault) }
 {
-    match fault {
-        MapFault::Syntax => out.write_all(b"Syntax"),
-        MapFault::Shape => out.write_all(b"Shape"),
-        MapFault::Repeated(target) => write_named_id("Repeated", target, out),
-        MapFault::OtherPackage(target) => write_named_id("OtherPackage", target, out),
-        MapFault::OutOfMemory => out.write_all(b"OutOfMemory"),
-    }
+    let name = match fault {
+        MapFault::Repeated(target) => return write_named_id("Repeated", target, out),
+        MapFault::OtherPackage(target) => return write_named_id("OtherPackage", target, out),
+        MapFault::Syntax => "Syntax",
+        MapFault::Shape => "Shape",
+        MapFault::OutOfMemory => "OutOfMemory",
+    };
+    out.write_all(name.as_bytes())
 }
