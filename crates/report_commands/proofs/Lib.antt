@@ -3,6 +3,7 @@ pub mod ToldSteps
 pub mod LayerLaws
 pub mod WarningSteps
 pub mod QualifierSteps
+pub mod Refusing
 pub mod QualifierLaws
 pub mod FindingsSteps
 pub mod EntriesSteps

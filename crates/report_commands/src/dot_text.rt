@@ -1,6 +1,7 @@
 //! The tree of a goal as a picture, written in the language DOT.
 
-ghost use Rattle.std.specs.Prelude.{◌≡◌, ◌++◌, map, OnOk, IfOk};
+ghost use Rattle.std.specs.Prelude.{◌≡◌, ◌++◌, codes, map, OnOk, IfOk};
+ghost use Rattle.std.specs.Fmt.{decimal};
 ghost use Rattle.std.specs.List.{flat_map};
 ghost use Rattle.contract_words.specs.Writes.{Writes};
 ghost use Rattle.command_base.specs.answer_text.OnLine.{on_line};
@@ -8,7 +9,7 @@ ghost use Rattle.command_base.specs.cert_tree.Certificate.{node_of, goal_of};
 ghost use Rattle.command_base.specs.cert_tree.res_value.Goal.{goal_seen};
 ghost use Rattle.report_commands.specs.TreeLinesSeen.{line_of};
 ghost use Rattle.report_commands.specs.TreeText.{goal_head};
-ghost use Rattle.report_commands.specs.DotText.{escaped, is_inside, character_end, dots_for, cut_label, quoted, unreached_label, line_label, missing_name, line_name, labeled_arrow, arrow_to, arrow_text, statements_with, statements_text, head_with, dot_text};
+ghost use Rattle.report_commands.specs.DotText.{escaped, is_inside, character_end, dots_for, cut_label, quoted, unreached_label, line_label, missing_name, line_name, arrow_to, arrow_text, statements_with, statements_text, head_with, dot_text};
 
 use crate::goal_text::write_goal_head;
 use crate::node_text::write_node_label;
@@ -49,7 +50,6 @@ fn head_of(
     ensures { IfOk result (λ text. text.items ≡ head_with (on_line (goal_head stack.now number (goal_seen goal.now)))) }
 {
     let label = goal_label(alloc, stack, number, goal)?;
-    let label = on_line(alloc, &label)?;
     let mut text = Vec::new(alloc);
     match write_head(&label, &mut text) {
         Ok(()) => Ok(text),
@@ -69,17 +69,18 @@ fn on_line(alloc: Global, text: &[u8]) -> Result<Vec<u8>, AllocError>
     }
 }
 
+// The first line of a goal.
 fn goal_label(
     alloc: Global,
     stack: &StackNames<'_, '_>,
     number: usize,
     goal: &Goal,
 ) -> Result<Vec<u8>, AllocError>
-    ensures { IfOk result (λ label. label.items ≡ goal_head stack.now number (goal_seen goal.now)) }
+    ensures { IfOk result (λ label. label.items ≡ on_line (goal_head stack.now number (goal_seen goal.now))) }
 {
     let mut label = Vec::new(alloc);
     match write_goal_head(stack, number, goal, &mut label) {
-        Ok(()) => Ok(label),
+        Ok(()) => on_line(alloc, &label),
         // To a `Vec` only a want of memory is a fault.
         Err(_) => Err(AllocError),
     }
@@ -123,7 +124,6 @@ fn push_line(
     ensures { OnOk result (text.new.items ≡ text.old.items ++ statements_text form stack.now (line_of line.now)) }
 {
     let label = label_of(alloc, form, stack, line)?;
-    let label = on_line(alloc, &label)?;
     match write_statements(line, &label, text) {
         Ok(()) => Ok(()),
         // To a `Vec` only a want of memory is a fault.
@@ -137,11 +137,11 @@ fn label_of(
     stack: &StackNames<'_, '_>,
     line: &TreeLine<'_>,
 ) -> Result<Vec<u8>, AllocError>
-    ensures { IfOk result (λ label. label.items ≡ line_label form stack.now (line_of line.now)) }
+    ensures { IfOk result (λ label. label.items ≡ on_line (line_label form stack.now (line_of line.now))) }
 {
     let mut label = Vec::new(alloc);
     match write_line_label(form, stack, line, &mut label) {
-        Ok(()) => Ok(label),
+        Ok(()) => on_line(alloc, &label),
         // To a `Vec` only a want of memory is a fault.
         Err(_) => Err(AllocError),
     }
@@ -300,7 +300,7 @@ fn write_arrow<W: Write + Drop>(line: &TreeLine<'_>, out: &mut W) -> io::Result<
     }
 }
 
-#[tactic(auto, unfolding(crate::specs::DotText::arrow_to))]
+#[tactic(auto, unfolding(crate::specs::DotText::arrow_to, crate::specs::DotText::labeled_arrow))]
 fn write_arrow_to<W: Write + Drop>(
     answer: LastAnswer,
     line: &TreeLine<'_>,
@@ -310,21 +310,21 @@ fn write_arrow_to<W: Write + Drop>(
 {
     match answer {
         LastAnswer::Nothing => Ok(()),
-        LastAnswer::Yes(test) => write_labeled_arrow(test, "yes", line, out),
-        LastAnswer::No(test) => write_labeled_arrow(test, "no", line, out),
+        LastAnswer::Yes(test) => write_labeled_arrow(test, line, b" [label=yes];\n", out),
+        LastAnswer::No(test) => write_labeled_arrow(test, line, b" [label=no];\n", out),
     }
 }
 
-#[tactic(auto, unfolding(crate::specs::DotText::labeled_arrow))]
+// An arrow from a test to a line, and behind it its label.
 fn write_labeled_arrow<W: Write + Drop>(
     test: usize,
-    label: &str,
     line: &TreeLine<'_>,
+    label: &[u8],
     out: &mut W,
 ) -> io::Result<()>
-    ensures { Writes W.contents out.old out.new result (labeled_arrow test label.now (line_name (line_of line.now))) }
+    ensures { Writes W.contents out.old out.new result (codes "  n" ++ decimal test ++ codes " -> " ++ line_name (line_of line.now) ++ label.now) }
 {
     write!(out, "  n{test} -> ")?;
     write_name(line, out)?;
-    writeln!(out, " [label={label}];")
+    out.write_all(label)
 }

@@ -1,7 +1,7 @@
 use Rattle.std.proofs.Common.{ℕ, List, Option, option_map}
 use Rattle.std.proofs.lemmas.Result.{err_from_is_err_and}
 use Rattle.command_base.specs.FilesSeen.{bytes_of, layers_held}
-use Rattle.command_base.specs.Inputs.{Places, file_of, layers_of, where_given}
+use Rattle.command_base.specs.Inputs.{file_of, layers_of, where_given}
 use Rattle.command_base.specs.StackBytes.{LayerBytes}
 use Rattle.command_base.proofs.ReadInTurn.{first_stops, behind_stops, behind_read, last_read}
 use Rattle.report_commands.specs.Survey.{SurveyBytes, survey_files}

@@ -1,0 +1,9 @@
+use Rattle.std.proofs.Common.{sym, ◌∙◌}
+use Rattle.report_commands.proofs.QualifierSteps.{counted-next}
+use Rattle.report_commands.specs.Counting.{said_by}
+use Rattle.report_commands.proofs.qualifiers.Qualifiers.add_table.Goals as goal
+
+pub loop-row-preserved : goal.loop-row-preserved
+loop-row-preserved c =
+    let step = counted-next _ _ said_by _ _ _ c.in-Some.ensures.steps c.add_row.ensures in
+    record { can = tt; ends = tt; left = sym step ∙ c.loop-row.invariant.left }
