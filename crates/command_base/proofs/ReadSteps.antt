@@ -1,5 +1,5 @@
 -- What is meant where something of what is read in turn stops, or is read.
-use Rattle.std.proofs.Common.{◌≡◌, ℕ, Bool, false, List, length, map, Option, Some, Result, Ok, sym, ap, ◌∙◌}
+use Rattle.std.proofs.Common.{◌≡◌, ℕ, Bool, false, List, length, map, Option, Some, Result, Ok, Err, sym, ap, ◌∙◌}
 use Rattle.std.specs.List.{enumerate_from}
 use Rattle.std.specs.Prelude.{if◌then◌else◌}
 use Rattle.apk_member.specs.declared.fault.ApkFault.{ApkFault}
@@ -126,3 +126,7 @@ of-list_bytes places path bytes are = ap (layers_with places) are
 pub of-list : (places : Places) (path bytes : List ℕ) (layers : List LayerPaths) (files : Result (List LayerBytes) StopOf) → file_of places path ≡ Ok bytes → layers_in bytes ≡ Ok layers
     → each (layer_of places) (enumerate_from 0 layers) ≡ files → layers_in_file places path ≡ files
 of-list places path bytes layers files are list read = of-list_bytes places path (Ok bytes) are ∙ ap (each_of places) list ∙ read
+
+pub of-list_fault : (places : Places) (path bytes : List ℕ) (fault : LayersFault) → file_of places path ≡ Ok bytes → layers_in bytes ≡ Err fault
+    → layers_in_file places path ≡ Err (tool (fault_of_layers fault))
+of-list_fault places path bytes fault are list = of-list_bytes places path (Ok bytes) are ∙ ap (each_of places) list

@@ -65,8 +65,8 @@ impl LayerFiles {
         inputs: &I,
         word: &'a str,
     ) -> Result<LayerFiles, Stop<'a>>
-        ensures layers { IfSome (I.places inputs.now) (λ places. GivesOrStops layers_held result (layers_named places word.entry.now)) }
-        ensures paths { IfOk result (λ files. paths_held files ≡ paths_in_word word.entry.now) }
+        ensures { IfSome (I.places inputs.now) (λ places. GivesOrStops layers_held result (layers_named places word.entry.now)
+            × IfOk result (λ files. paths_held files ≡ paths_in_word word.entry.now)) }
     {
         let layers = layers_in_word(alloc, word)?;
         check_count(layers.len())?;
@@ -82,8 +82,8 @@ impl LayerFiles {
         inputs: &I,
         path: &'a str,
     ) -> Result<LayerFiles, Stop<'a>>
-        ensures layers { IfSome (I.places inputs.now) (λ places. GivesOrStops layers_held result (layers_in_file places path.entry.now)) }
-        ensures paths { IfSome (I.places inputs.now) (λ places. IfOk result (λ files. paths_held files ≡ paths_in_json (file_of places path.entry.now))) }
+        ensures { IfSome (I.places inputs.now) (λ places. GivesOrStops layers_held result (layers_in_file places path.entry.now)
+            × IfOk result (λ files. paths_held files ≡ paths_in_json (file_of places path.entry.now))) }
     {
         let json = file_bytes(inputs, path)?;
         let list = LayerList::read(alloc, &json)?;
