@@ -1,6 +1,6 @@
 //! What names stand for, told name by name.
 
-ghost use Rattle.std.specs.Prelude.{◌≡◌, ℕ, ◌++◌, List, filter, map, IfOk, OnOk};
+ghost use Rattle.std.specs.Prelude.{◌≡◌, ℕ, ◌++◌, ◌∷◌, [], List, filter, map, IfOk, OnOk};
 ghost use Rattle.std.specs.List.{flat_map};
 ghost use Rattle.std.specs.Option.{option_map};
 ghost use Rattle.json_input.specs.Each.{each};
@@ -67,8 +67,8 @@ impl<'s, 'a, 'n> Finder<'s, 'a, 'n> {
 
     /// The id of a resource.
     pub fn id(&mut self, alloc: Global, named: &Named<'_>) -> Result<ResId, NameFault>
-        ensures left { (layers : List LayerOf) (names : List WantedOf) → Tells layers (names_in (named_of named.now) ++ names) self.old → Tells layers names self.new }
-        ensures found { (layers : List LayerOf) (names : List WantedOf) → Tells layers (names_in (named_of named.now) ++ names) self.old → GivesNamed (λ id. id) result (id_named layers (named_of named.now)) }
+        ensures { (layers : List LayerOf) (names : List WantedOf) → Tells layers (names_in (named_of named.now) ++ names) self.old
+            → Tells layers names self.new × GivesNamed (λ id. id) result (id_named layers (named_of named.now)) }
     {
         match named {
             Named::Id(id) => Ok(*id),
@@ -86,8 +86,8 @@ impl<'s, 'a, 'n> Finder<'s, 'a, 'n> {
 
     /// The ids of resources, one after the other.
     pub fn each_id(&mut self, alloc: Global, all: &[Named<'_>]) -> Result<Vec<ResId>, NameFault>
-        ensures left { (layers : List LayerOf) (names : List WantedOf) → Tells layers (flat_map (λ named. names_in (named_of named)) all.now ++ names) self.old → OnOk result (Tells layers names self.new) }
-        ensures found { (layers : List LayerOf) (names : List WantedOf) → Tells layers (flat_map (λ named. names_in (named_of named)) all.now ++ names) self.old → GivesNamed (λ ids. ids.items) result (each (id_named layers) (map named_of all.now)) }
+        ensures { (layers : List LayerOf) (names : List WantedOf) → Tells layers (flat_map (λ named. names_in (named_of named)) all.now ++ names) self.old
+            → OnOk result (Tells layers names self.new) × GivesNamed (λ ids. ids.items) result (each (id_named layers) (map named_of all.now)) }
     {
         let mut ids = Vec::with_capacity(alloc, all.len())?;
         for named in all {
@@ -99,15 +99,14 @@ impl<'s, 'a, 'n> Finder<'s, 'a, 'n> {
 
     /// The ids of a set of resources.
     pub fn ids(&mut self, alloc: Global, set: &NamedSet<'n>) -> Result<Rc<Vec<ResId>>, NameFault>
-        ensures left { (layers : List LayerOf) (names : List WantedOf) → Tells layers (names_in_set (named_set_of set.now) ++ names) self.old → OnOk result (Tells layers names self.new) }
-        ensures found { (layers : List LayerOf) (names : List WantedOf) → Tells layers (names_in_set (named_set_of set.now) ++ names) self.old → GivesNamed (λ ids. ids.value.items) result (ids_of_set layers (named_set_of set.now)) }
+        ensures { (layers : List LayerOf) (names : List WantedOf) → Tells layers (names_in_set (named_set_of set.now) ++ names) self.old
+            → OnOk result (Tells layers names self.new) × GivesNamed (λ ids. ids.value.items) result (ids_of_set layers (named_set_of set.now)) }
     {
         match set {
             NamedSet::One(named) => {
                 let id = self.id(alloc, named)?;
-                let ids = vec![in alloc; id]?;
-                let shared = Rc::new(alloc, ids)?;
-                Ok(shared)
+                let ids = only(alloc, id)?;
+                Ok(ids)
             }
             NamedSet::OfType { package, type_name } => {
                 let ids = self.ids_of_rows(alloc, Some(*type_name))?;
@@ -156,6 +155,14 @@ impl<'s, 'a, 'n> Finder<'s, 'a, 'n> {
         }
         Ok(Rc::new(alloc, kept)?)
     }
+}
+
+// An id alone.
+fn only(alloc: Global, id: ResId) -> Result<Rc<Vec<ResId>>, AllocError>
+    ensures { IfOk result (λ ids. ids.value.items ≡ id ∷ []) }
+{
+    let ids = vec![in alloc; id]?;
+    Ok(Rc::new(alloc, ids)?)
 }
 
 // The id of a name, of which this was found.

@@ -102,8 +102,8 @@ fn goals_of_word<'n>(
     finder: &mut Finder<'_, '_, 'n>,
     word: &NamedGoal<'n>,
 ) -> Result<WordGoals, NameFault>
-    ensures left { (layers : List LayerOf) (names : List WantedOf) → Tells layers (names_in_goal (named_goal_of word.now) ++ names) finder.old → OnOk result (Tells layers names finder.new) }
-    ensures found { (layers : List LayerOf) (names : List WantedOf) → Tells layers (names_in_goal (named_goal_of word.now) ++ names) finder.old → GivesNamed goals_in result (goals_of_word layers (named_goal_of word.now)) }
+    ensures { (layers : List LayerOf) (names : List WantedOf) → Tells layers (names_in_goal (named_goal_of word.now) ++ names) finder.old
+        → OnOk result (Tells layers names finder.new) × GivesNamed goals_in result (goals_of_word layers (named_goal_of word.now)) }
 {
     match word {
         NamedGoal::Ids(goal) => {

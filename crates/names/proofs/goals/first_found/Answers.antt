@@ -31,9 +31,9 @@ loop-goal-preserved c = λ layers told.
     let word = c.goal-item.result in
     let split = split_at c.args.goals.now c.loop-goal.goal-index word c.loop-goal-test.true c.goal-item.is in
     let first = Tells-first (λ (goal : NamedGoal). names_in_goal (named_goal_of goal)) layers _ _ _ word so_far.0 split in (
-      c.in_ok-found.ensures.left layers _ first,
+      (c.in_ok-found.ensures layers _ first).0,
       FirstBut-next (goals_of_word layers) c.args.most _ _ _ _ _ (named_goal_of word) _ so_far.1 (ap (λ (left : List NamedGoal). map named_goal_of left) split)
-          (c.in_ok-found.ensures.found layers _ first) c.in_ok-push_first.ensures,
+          (c.in_ok-found.ensures layers _ first).1 c.in_ok-push_first.ensures,
     )
 
 pub returns-in_err-found : goal.returns-in_err-found
@@ -46,7 +46,7 @@ returns-in_err-found c = λ layers told.
     rw (p.1, p.2) (λ other.
     first-missing layers (map named_goal_of c.args.goals.now) c.args.most _
     (FirstBut-stops (goals_of_word layers) c.args.most _ _ _ (named_goal_of word) _ _ so_far.1 (ap (λ (left : List NamedGoal). map named_goal_of left) split)
-    (c.in_err-found.ensures.found layers _ first other)))
+    ((c.in_err-found.ensures layers _ first).1 other)))
 
 pub returns : goal.returns
 returns c = λ layers told.

@@ -32,9 +32,9 @@ loop-set-preserved c = λ layers told.
     let split = drop_more sets place _ c.loop-set-test.true in
     let first = Tells-first (λ (set : NamedSet). names_in_set (named_set_of set)) layers _ _ _ _ so_far.0 split in
     let put = c.in_ok-extend_from_slice.ensures.items ∙ ap (λ (ids : List ResId). all ++ ids) (c.deref-in-loop-set.ensures.value ∙ ap (λ ids. ids.items) c.deref.ensures) in (
-      c.in_ok-ids.ensures.left layers behind first,
+      (c.in_ok-ids.ensures layers behind first).0,
       ReadsAllBut-next (ids_of_set layers) all _ _ _ _ _ so_far.1 (ap (λ (left : List NamedSet). map named_set_of left) split)
-          (ap (λ (r : Result (List ResId) NameFaultOf). with_front all r) (c.in_ok-ids.ensures.found layers behind first) ∙ ap wrapped (sym put)),
+          (ap (λ (r : Result (List ResId) NameFaultOf). with_front all r) (c.in_ok-ids.ensures layers behind first).1 ∙ ap wrapped (sym put)),
     )
 
 pub returns-in_err-ids : goal.returns-in_err-ids
@@ -49,7 +49,7 @@ returns-in_err-ids c = λ layers told.
     rw (p.1, p.2) (λ other.
     ReadsAllBut-stops (ids_of_set layers) all _ _ _ _ _ so_far.1 (ap (λ (left : List NamedSet). map named_set_of left) split)
     (ap (λ (r : Result (List ResId) NameFaultOf). with_front all r)
-    (c.in_err-ids.ensures.found layers behind (Tells-first (λ (set : NamedSet). names_in_set (named_set_of set)) layers _ _ _ _ so_far.0 split) other)))
+    ((c.in_err-ids.ensures layers behind (Tells-first (λ (set : NamedSet). names_in_set (named_set_of set)) layers _ _ _ _ so_far.0 split)).1 other)))
 
 pub returns : goal.returns
 returns c = λ layers told.

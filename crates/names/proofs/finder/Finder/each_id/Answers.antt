@@ -16,30 +16,25 @@ loop-named-preserved c = λ layers names told.
     let so_far = c.loop-named.invariant layers names told in
     let all = c.args.all.now in
     let place = c.loop-named.named-index in
-    let behind = flat_map (λ (named : Named). names_in (named_of named)) (drop (place + 1) all) ++ names in (
-      c.in_ok-id.ensures.left layers behind
-          (Tells-first_of (λ (named : Named). names_in (named_of named)) layers _ _ _ _ names so_far.0 (drop_more all place _ c.loop-named-test.true)),
+    let behind = flat_map (λ (named : Named). names_in (named_of named)) (drop (place + 1) all) ++ names in
+    let given = c.in_ok-id.ensures layers behind (Tells-first_of (λ (named : Named). names_in (named_of named)) layers _ _ _ _ names so_far.0 (drop_more all place _ c.loop-named-test.true)) in (
+      given.0,
       subst (λ (ids : List ResId). EachAllBut (id_named layers) ids (place + 1) (map named_of all)) (sym c.in_ok-push.ensures.items)
-          (EachAllBut-next_item (id_named layers) named_of _ place all _ _ so_far.1 c.loop-named-test.true
-          (c.in_ok-id.ensures.found layers behind
-          (Tells-first_of (λ (named : Named). names_in (named_of named)) layers _ _ _ _ names so_far.0 (drop_more all place _ c.loop-named-test.true)))),
+          (EachAllBut-next_item (id_named layers) named_of _ place all _ _ so_far.1 c.loop-named-test.true given.1),
     )
 
-pub returns-in_err-id-clause-found : goal.returns-in_err-id-clause-found
-returns-in_err-id-clause-found c = λ layers names told.
+pub returns-in_err-id : goal.returns-in_err-id
+returns-in_err-id c = λ layers names told.
     let so_far = c.loop-named.invariant layers names told in
     let all = c.args.all.now in
     let place = c.loop-named.named-index in
     let behind = flat_map (λ (named : Named). names_in (named_of named)) (drop (place + 1) all) ++ names in
+    let given = c.in_err-id.ensures layers behind (Tells-first_of (λ (named : Named). names_in (named_of named)) layers _ _ _ _ names so_far.0 (drop_more all place _ c.loop-named-test.true)) in
     let p = err_from_is_err_and c.from_residual-in_err-id.result c.from_residual-in_err-id.ensures.1 in
-    rw (p.1, p.2) (λ other. EachAllBut-stops_item (id_named layers) named_of _ place all _ _ so_far.1 c.loop-named-test.true
-    (c.in_err-id.ensures.found layers behind
-    (Tells-first_of (λ (named : Named). names_in (named_of named)) layers _ _ _ _ names so_far.0 (drop_more all place _ c.loop-named-test.true)) other))
+    rw (p.1, p.2) (tt, λ other. EachAllBut-stops_item (id_named layers) named_of _ place all _ _ so_far.1 c.loop-named-test.true (given.1 other))
 
-pub returns-clause-left : goal.returns-clause-left
-returns-clause-left c = λ layers names told.
-    Tells-behind (λ (named : Named). names_in (named_of named)) layers _ c.args.all.now _ names (c.loop-named.invariant layers names told).0 c.loop-named-test.false
-
-pub returns-clause-found : goal.returns-clause-found
-returns-clause-found c = λ layers names told.
-    EachAllBut-end_item (id_named layers) named_of _ _ c.args.all.now (c.loop-named.invariant layers names told).1 c.loop-named-test.false
+pub returns : goal.returns
+returns c = λ layers names told. (
+  Tells-behind (λ (named : Named). names_in (named_of named)) layers _ c.args.all.now _ names (c.loop-named.invariant layers names told).0 c.loop-named-test.false,
+  EachAllBut-end_item (id_named layers) named_of _ _ c.args.all.now (c.loop-named.invariant layers names told).1 c.loop-named-test.false,
+)

@@ -13,18 +13,19 @@ use Rattle.names.proofs.TellsSteps.{told-first}
 use Rattle.names.proofs.WordSteps.{by-name, id-itself, GivesNamed-same}
 use Rattle.names.proofs.finder.Finder.id.Goals as goal
 
-pub returns-in-Id-clause-found : goal.returns-in-Id-clause-found
-returns-in-Id-clause-found c = λ layers names told. ap (λ (named : Named). id_named layers (named_of named)) c.in-Id.is ∙ id-itself layers _
+pub returns-in-Id : goal.returns-in-Id
+returns-in-Id c = λ layers names told. (
+  subst (λ (named : Named). Tells layers (names_in (named_of named) ++ names) c.args.self.now) c.in-Id.is told,
+  ap (λ (named : Named). id_named layers (named_of named)) c.in-Id.is ∙ id-itself layers _,
+)
 
-pub returns-in-Name-clause-left : goal.returns-in-Name-clause-left
-returns-in-Name-clause-left c = λ layers names told.
-    (told-first layers _ names c.args.self.now _ _ (subst (λ (named : Named). Tells layers (names_in (named_of named) ++ names) c.args.self.now) c.in-Name.is told) refl refl told.known c.next.ensures.cases).1
-
-pub returns-in-Name-clause-found : goal.returns-in-Name-clause-found
-returns-in-Name-clause-found c = λ layers names told.
+pub returns-in-Name : goal.returns-in-Name
+returns-in-Name c = λ layers names told.
     let first = told-first layers _ names c.args.self.now (record c.args.self.now { found = c.next.new.self }) _
-    (subst (λ (named : Named). Tells layers (names_in (named_of named) ++ names) c.args.self.now) c.in-Name.is told) refl refl told.known c.next.ensures.cases in
-    GivesNamed-same _ _ _ _
-    (ap (λ (named : Named). id_named layers (named_of named)) c.in-Name.is ∙ by-name layers (option_map package_word_of c.in-Name.package) c.in-Name.type_name.now c.in-Name.entry_name.now (map package_name_of c.deref.result.now) c.unwrap_or-found.result (ap (λ (all : List PackageName). map package_name_of all) c.deref.ensures.value ∙ told.packages) (c.unwrap_or-found.ensures ∙ first.0)
-    ∙ ap (λ (wanted : WantedOf). id_of_found (map package_name_of c.deref.result.now) wanted c.unwrap_or-found.result) (sym c.of_parts-wanted.ensures))
-    c.id_of_found.ensures
+    (subst (λ (named : Named). Tells layers (names_in (named_of named) ++ names) c.args.self.now) c.in-Name.is told) refl refl told.known c.next.ensures.cases in (
+      first.1,
+      GivesNamed-same _ _ _ _
+          (ap (λ (named : Named). id_named layers (named_of named)) c.in-Name.is ∙ by-name layers (option_map package_word_of c.in-Name.package) c.in-Name.type_name.now c.in-Name.entry_name.now (map package_name_of c.deref.result.now) c.unwrap_or-found.result (ap (λ (all : List PackageName). map package_name_of all) c.deref.ensures.value ∙ told.packages) (c.unwrap_or-found.ensures ∙ first.0)
+          ∙ ap (λ (wanted : WantedOf). id_of_found (map package_name_of c.deref.result.now) wanted c.unwrap_or-found.result) (sym c.of_parts-wanted.ensures))
+          c.id_of_found.ensures,
+    )
