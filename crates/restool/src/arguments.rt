@@ -1,10 +1,12 @@
 //! What the arguments of a command have.
 
 ghost use Rattle.std.specs.Prelude.{◌≡◌, map, codes, option_map};
+ghost use Rattle.resource_tool.specs.command_base.FileWords.{texts_of};
+ghost use Rattle.resource_tool.specs.command_base.names.Named.{named_of};
 ghost use Rattle.clap.specs.Words.{all_of, first_of, found_of, one_of, rows_of};
 ghost use Rattle.json_input.specs.Each.{each};
 ghost use Rattle.restool.specs.AskedWords.{ReadsNamed, ReadsWords, asked_word, named_word};
-ghost use Rattle.restool.specs.Given.{IsFormGiven, IsGiven, IsGoalNumber, IsLineFormGiven, IsNodeLimit, ReadsRule, word_at, words_at};
+ghost use Rattle.restool.specs.Given.{IsFormGiven, IsGiven, IsGoalNumber, IsLineFormGiven, IsNodeLimit, ReadsAlong, ReadsByRule, ReadsRule, word_at, words_at};
 ghost use Rattle.restool.specs.Request.{locales_at};
 
 use crate::argument_fault::ArgumentFault;
@@ -71,6 +73,50 @@ pub(crate) fn given_asked<'a>(
         Some(words) => asked_words(alloc, words, asks),
         None => asked_words(alloc, &[], asks),
     }
+}
+
+/// The rule of locales, and a resource.
+#[derive(Clone, Copy)]
+pub(crate) struct NamedByRule<'a> {
+    pub locales: LocaleRule,
+    pub resource: Named<'a>,
+}
+
+/// By which rule locales are compared, and the resource that the word of an argument asks for.
+pub(crate) fn named_by_rule<'a>(
+    given: &ArgMatches<'a>,
+    argument: &Argument,
+) -> Result<NamedByRule<'a>, ArgumentFault<'a>>
+    ensures { ReadsByRule (locales_at (rows_of (found_of given.now)))
+        (λ rule. ReadsAlong (named_word (word_at argument.now.name.now (rows_of (found_of given.now))))
+        (λ asked it. (it.locales ≡ rule) × (asked ≡ named_of it.resource))) result }
+{
+    let locales = given_rule(given)?;
+    let resource = given_named(given, argument)?;
+    Ok(NamedByRule { locales, resource })
+}
+
+/// The rule of locales, and words that ask for resources or goals.
+#[derive(Drop)]
+pub(crate) struct WordsByRule<'a> {
+    pub locales: LocaleRule,
+    pub words: Vec<&'a str>,
+}
+
+/// By which rule locales are compared, and the words of an argument, as `given_asked` has them.
+pub(crate) fn asked_by_rule<'a>(
+    alloc: Global,
+    given: &ArgMatches<'a>,
+    argument: &Argument,
+    asks: Asks,
+) -> Result<WordsByRule<'a>, ArgumentFault<'a>>
+    ensures { ReadsByRule (locales_at (rows_of (found_of given.now)))
+        (λ rule. ReadsAlong (each (asked_word asks) (words_at argument.now.name.now (rows_of (found_of given.now))))
+        (λ asked it. (it.locales ≡ rule) × (asked ≡ texts_of it.words))) result }
+{
+    let locales = given_rule(given)?;
+    let words = given_asked(alloc, given, argument, asks)?;
+    Ok(WordsByRule { locales, words })
 }
 
 /// Whether a flag is given.

@@ -24,6 +24,7 @@ mod verdicts;
 mod words;
 
 use crate::hints::devices::hint_of_part;
+use crate::hints::named_files::NamedFiles;
 use crate::hints::near_names::hint_of_bare;
 use crate::hints::text::text_of;
 use crate::hints::words::hint_of_bad_id;
@@ -67,11 +68,11 @@ pub(crate) fn hint_of<I: Inputs>(
     let asked = Asked {
         alloc,
         inputs,
-        request,
+        files: NamedFiles::of(request),
     };
     match ended.outcome {
         Ok(Status::Done) => asked.hint_of_overlays(ended.left),
-        Ok(Status::Negative) => match asked.hint_of_answer(ended.said, ended.reached) {
+        Ok(Status::Negative) => match asked.hint_of_answer(request, ended) {
             Some(hint) => Some(hint),
             None => asked.hint_of_overlays(ended.left),
         },
@@ -99,12 +100,12 @@ pub(crate) fn hint_of_words<I: Inputs>(
     }
 }
 
-/// What was asked, and what its files have.
+/// What the words of a request name, and what these files have.
 #[derive(Drop)]
 pub(crate) struct Asked<'t, 'a, I> {
     pub alloc: Global,
     pub inputs: &'t I,
-    pub request: &'t Request<'a>,
+    pub files: NamedFiles<'t, 'a>,
 }
 
 impl<I: Inputs> Asked<'_, '_, I> {
@@ -121,7 +122,7 @@ impl<I: Inputs> Asked<'_, '_, I> {
                 self.alloc,
                 &["give \"uiType\":1, which a line means that names no kind of device"],
             ),
-            Stop::DevicePart(part) => hint_of_part(self.alloc, self.request.rule(), part),
+            Stop::DevicePart(part) => hint_of_part(self.alloc, self.files.rule, part),
             Stop::Tool(fault) => self.hint_of_fault(*fault),
             _ => None,
         }

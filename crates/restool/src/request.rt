@@ -10,8 +10,9 @@ ghost use Rattle.resource_tool.specs.command_base.CarriesOut.{IsKept};
 
 use crate::argument_fault::ArgumentFault;
 use crate::arguments::{
-    given_asked, given_flag, given_form, given_goal_number, given_line_form, given_maybe_word,
-    given_named, given_nodes, given_rule, given_word,
+    NamedByRule, WordsByRule, asked_by_rule, given_asked, given_flag, given_form,
+    given_goal_number, given_line_form, given_maybe_word, given_nodes, given_rule, given_word,
+    named_by_rule,
 };
 use crate::asked_words::Asks;
 use crate::command_line::{
@@ -297,21 +298,21 @@ fn survey_of<'a>(given: &ArgMatches<'a>) -> Result<Request<'a>, ArgumentFault<'a
 fn query_of<'a>(alloc: Global, given: &ArgMatches<'a>) -> Result<Request<'a>, ArgumentFault<'a>>
     ensures { ReadsCommand Command.Query (rows_of (found_of given.now)) result }
 {
-    let locales = given_rule(given)?;
+    let WordsByRule { locales, words } = asked_by_rule(alloc, given, &IDS, Asks::Resources)?;
     Ok(Request::Query(Query {
         layers: given_word(given, &LAYERS),
         device: given_word(given, &DEVICE),
         locales,
         names: given_flag(given, &NAMES),
         android: given_flag(given, &NOTATION),
-        words: given_asked(alloc, given, &IDS, Asks::Resources)?,
+        words,
     }))
 }
 
 fn explain_of<'a>(given: &ArgMatches<'a>) -> Result<Request<'a>, ArgumentFault<'a>>
     ensures { ReadsCommand Command.Explain (rows_of (found_of given.now)) result }
 {
-    let locales = given_rule(given)?;
+    let NamedByRule { locales, resource } = named_by_rule(given, &ID)?;
     Ok(Request::Explain(Explain {
         layers: given_word(given, &LAYERS),
         device: given_word(given, &DEVICE),
@@ -319,37 +320,37 @@ fn explain_of<'a>(given: &ArgMatches<'a>) -> Result<Request<'a>, ArgumentFault<'
         names: given_flag(given, &NAMES),
         android: given_flag(given, &NOTATION),
         all: given_flag(given, &ALL),
-        resource: given_named(given, &ID)?,
+        resource,
     }))
 }
 
 fn bag_of<'a>(given: &ArgMatches<'a>) -> Result<Request<'a>, ArgumentFault<'a>>
     ensures { ReadsCommand Command.Bag (rows_of (found_of given.now)) result }
 {
-    let locales = given_rule(given)?;
+    let NamedByRule { locales, resource } = named_by_rule(given, &BAG_ID)?;
     Ok(Request::Bag(Bag {
         layers: given_word(given, &LAYERS),
         device: given_word(given, &DEVICE),
         locales,
         names: given_flag(given, &NAMES),
         android: given_flag(given, &NOTATION),
-        resource: given_named(given, &BAG_ID)?,
+        resource,
     }))
 }
 
-#[tactic(auto, unfolding(crate::specs::Request::attr_asked))]
 fn attr_of<'a>(alloc: Global, given: &ArgMatches<'a>) -> Result<Request<'a>, ArgumentFault<'a>>
     ensures { ReadsCommand Command.Attr (rows_of (found_of given.now)) result }
 {
-    let locales = given_rule(given)?;
+    let NamedByRule { locales, resource } = named_by_rule(given, &ATTRIBUTE)?;
+    let styles = given_asked(alloc, given, &STYLES, Asks::Resources)?;
     Ok(Request::Attr(Attr {
         layers: given_word(given, &LAYERS),
         device: given_word(given, &DEVICE),
         locales,
         names: given_flag(given, &NAMES),
         android: given_flag(given, &NOTATION),
-        attr: given_named(given, &ATTRIBUTE)?,
-        styles: given_asked(alloc, given, &STYLES, Asks::Resources)?,
+        attr: resource,
+        styles,
         force: !given_flag(given, &KEEP),
     }))
 }
@@ -357,7 +358,7 @@ fn attr_of<'a>(alloc: Global, given: &ArgMatches<'a>) -> Result<Request<'a>, Arg
 fn make_of<'a>(alloc: Global, given: &ArgMatches<'a>) -> Result<Request<'a>, ArgumentFault<'a>>
     ensures { ReadsCommand Command.Make (rows_of (found_of given.now)) result }
 {
-    let locales = given_rule(given)?;
+    let WordsByRule { locales, words } = asked_by_rule(alloc, given, &GOALS, Asks::Goals)?;
     Ok(Request::Make(Make {
         layers: given_word(given, &LAYERS),
         box_path: given_word(given, &BOX),
@@ -365,14 +366,14 @@ fn make_of<'a>(alloc: Global, given: &ArgMatches<'a>) -> Result<Request<'a>, Arg
         names: given_flag(given, &NAMES),
         max_nodes: given_nodes(given),
         omit: given_flag(given, &OMIT),
-        goals: given_asked(alloc, given, &GOALS, Asks::Goals)?,
+        goals: words,
     }))
 }
 
 fn check_of<'a>(alloc: Global, given: &ArgMatches<'a>) -> Result<Request<'a>, ArgumentFault<'a>>
     ensures { ReadsCommand Command.Check (rows_of (found_of given.now)) result }
 {
-    let locales = given_rule(given)?;
+    let WordsByRule { locales, words } = asked_by_rule(alloc, given, &GOALS, Asks::Goals)?;
     Ok(Request::Check(Check {
         layers: given_word(given, &LAYERS),
         box_path: given_word(given, &BOX),
@@ -381,14 +382,19 @@ fn check_of<'a>(alloc: Global, given: &ArgMatches<'a>) -> Result<Request<'a>, Ar
         names: given_flag(given, &NAMES),
         android: given_flag(given, &NOTATION),
         all: given_flag(given, &ALL_GOALS),
-        goals: given_asked(alloc, given, &GOALS, Asks::Goals)?,
+        goals: words,
     }))
 }
 
 fn diff_of<'a>(alloc: Global, given: &ArgMatches<'a>) -> Result<Request<'a>, ArgumentFault<'a>>
     ensures { ReadsCommand Command.Diff (rows_of (found_of given.now)) result }
 {
-    let locales = given_rule(given)?;
+    let WordsByRule { locales, words } = asked_by_rule(
+        alloc,
+        given,
+        &MAYBE_NAMES,
+        Asks::Resources,
+    )?;
     Ok(Request::Diff(Diff {
         old: given_word(given, &OLD),
         new: given_word(given, &NEW),
@@ -396,34 +402,44 @@ fn diff_of<'a>(alloc: Global, given: &ArgMatches<'a>) -> Result<Request<'a>, Arg
         locales,
         form: given_line_form(given),
         max_nodes: given_nodes(given),
-        words: given_asked(alloc, given, &MAYBE_NAMES, Asks::Resources)?,
+        words,
     }))
 }
 
 fn values_of<'a>(alloc: Global, given: &ArgMatches<'a>) -> Result<Request<'a>, ArgumentFault<'a>>
     ensures { ReadsCommand Command.Values (rows_of (found_of given.now)) result }
 {
-    let locales = given_rule(given)?;
+    let WordsByRule { locales, words } = asked_by_rule(
+        alloc,
+        given,
+        &MAYBE_NAMES,
+        Asks::Resources,
+    )?;
     Ok(Request::Values(Values {
         layers: given_word(given, &LAYERS),
         box_path: given_word(given, &BOX),
         locales,
         form: given_line_form(given),
         max_nodes: given_nodes(given),
-        words: given_asked(alloc, given, &MAYBE_NAMES, Asks::Resources)?,
+        words,
     }))
 }
 
 fn unused_of<'a>(alloc: Global, given: &ArgMatches<'a>) -> Result<Request<'a>, ArgumentFault<'a>>
     ensures { ReadsCommand Command.Unused (rows_of (found_of given.now)) result }
 {
-    let locales = given_rule(given)?;
+    let WordsByRule { locales, words } = asked_by_rule(
+        alloc,
+        given,
+        &MAYBE_NAMES,
+        Asks::Resources,
+    )?;
     Ok(Request::Unused(Unused {
         layers: given_word(given, &LAYERS),
         box_path: given_word(given, &BOX),
         locales,
         max_nodes: given_nodes(given),
-        words: given_asked(alloc, given, &MAYBE_NAMES, Asks::Resources)?,
+        words,
     }))
 }
 

@@ -1,8 +1,9 @@
 //! Hints behind answers that say no.
 
 use crate::command_line::MOST_NODES;
-use crate::hints::Asked;
-use crate::hints::text::{number_text, text_of};
+use crate::hints::text::Piece::{Number, Text};
+use crate::hints::text::{text_of, text_with};
+use crate::hints::{Asked, CommandEnd};
 use crate::request::Request;
 use command_base::Inputs;
 use resource_tool::Reached;
@@ -21,12 +22,17 @@ const NOTHING_MAPS: &[u8] = b"[]\n";
 const MORE: u32 = 10;
 
 impl<I: Inputs> Asked<'_, '_, I> {
-    /// A hint behind what a command wrote to its output, which came so far.
-    pub(crate) fn hint_of_answer(&self, said: &[u8], reached: Reached) -> Option<String> {
+    /// A hint behind what a command wrote to its output.
+    pub(crate) fn hint_of_answer(
+        &self,
+        request: &Request<'_>,
+        ended: &CommandEnd<'_, '_>,
+    ) -> Option<String> {
+        let said = ended.said;
         if said == NODE_LIMIT {
-            return hint_of_limit(self.alloc, self.request, reached);
+            return hint_of_limit(self.alloc, request, ended.reached);
         }
-        let hint = match self.request {
+        let hint = match request {
             Request::Make(_) if said.starts_with(COUNTEREXAMPLE) => {
                 "--omit leaves out goals without a value on some device, and tells them"
             }
@@ -65,49 +71,39 @@ fn more_nodes(alloc: Global, most: u32, what: &str) -> Option<String> {
         return text_of(alloc, &parts);
     }
     let more = most.saturating_mul(MORE).min(MOST_NODES);
-    let more = number_text(alloc, u64::from(more))?;
-    text_of(
+    text_with(
         alloc,
         &[
-            "--max-nodes ",
-            more.as_str(),
-            " allows more, fewer ",
-            what,
-            " or a smaller box need less",
+            Text("--max-nodes "),
+            Number(u64::from(more)),
+            Text(" allows more, fewer "),
+            Text(what),
+            Text(" or a smaller box need less"),
         ],
     )
 }
 
 fn came_so_far(alloc: Global, most: u32, what: &str, reached: Reached) -> Option<String> {
-    let limit = number_text(alloc, u64::from(most))?;
-    let limit = limit.as_str();
+    let limit = Number(u64::from(most));
     if reached.done == 0 && reached.all > most as usize {
-        let parts = [
-            "there are more ",
-            what,
-            " than ",
+        let pieces = [
+            Text("there are more "),
+            Text(what),
+            Text(" than "),
             limit,
-            ", the limit of nodes",
+            Text(", the limit of nodes"),
         ];
-        return text_of(alloc, &parts);
+        return text_with(alloc, &pieces);
     }
-    done_of_all(alloc, limit, what, reached)
-}
-
-fn done_of_all(alloc: Global, limit: &str, what: &str, reached: Reached) -> Option<String> {
-    let done = number_text(alloc, reached.done as u64)?;
-    let all = number_text(alloc, reached.all as u64)?;
-    text_of(
-        alloc,
-        &[
-            done.as_str(),
-            " of ",
-            all.as_str(),
-            " ",
-            what,
-            " were done with at most ",
-            limit,
-            " nodes",
-        ],
-    )
+    let pieces = [
+        Number(reached.done as u64),
+        Text(" of "),
+        Number(reached.all as u64),
+        Text(" "),
+        Text(what),
+        Text(" were done with at most "),
+        limit,
+        Text(" nodes"),
+    ];
+    text_with(alloc, &pieces)
 }

@@ -6,7 +6,8 @@ use crate::hints::members::{
     is_short, members_of,
 };
 use crate::hints::qualifiers::{meaning, name_of};
-use crate::hints::text::{number_text, text_of};
+use crate::hints::text::Piece::{Number, Text};
+use crate::hints::text::{text_of, text_with};
 use command_base::{BoxFault, Coord, LocaleRule};
 use json_input::list_of;
 use locales::read_locale;
@@ -181,15 +182,14 @@ fn hint_of_other(alloc: Global, coord: Coord, value: &Value) -> Option<String> {
 }
 
 fn hint_of_single(alloc: Global, coord: Coord, number: u64) -> Option<String> {
-    let number = number_text(alloc, number)?;
-    text_of(
+    text_with(
         alloc,
         &[
-            "\"",
-            name_of(coord),
-            "\" takes a list in a box: [",
-            number.as_str(),
-            "]",
+            Text("\""),
+            Text(name_of(coord)),
+            Text("\" takes a list in a box: ["),
+            Number(number),
+            Text("]"),
         ],
     )
 }

@@ -2,12 +2,13 @@
 
 use crate::hints::Asked;
 use crate::hints::again::Again;
-use crate::hints::text::{number_text, text_of};
+use crate::hints::text::Piece::{self, Number, Text};
+use crate::hints::text::{text_of, text_with};
 use answer_text::{StackNames, write_goal_words};
 use command_base::{
     Cert, CertGoal, Goal, Inputs, LayerFiles, LayerParts, asked_goals, asked_words, open_stack,
 };
-use names::first_goals;
+use names::{NamedGoal, first_goals};
 use resource_tool::Check;
 use std::alloc::Global;
 
@@ -50,46 +51,29 @@ fn hint_by(alloc: Global, differs: &str, why: &str, layers: &str, path: &str) ->
 }
 
 impl GoalTexts {
-    fn difference(&self, alloc: Global, path: &str) -> Option<String> {
+    fn difference<'t>(&'t self, alloc: Global, path: &'t str) -> Option<String> {
         let place = first_difference(&self.asked, &self.certified);
-        let number = number_text(alloc, place as u64)?;
-        let number = number.as_str();
+        let number = Number(place as u64);
         match (self.certified.get(place), self.asked.get(place)) {
-            (Some(certified), Some(asked)) => text_of(
-                alloc,
-                &[
-                    "goal ",
+            (Some(certified), Some(asked)) => {
+                differs_at(alloc, path, number, certified.as_str(), asked.as_str())
+            }
+            (Some(certified), None) => {
+                let more = Text(" has more goals, goal ");
+                let certified = Text(certified.as_str());
+                text_with(alloc, &[Text(path), more, number, Text(" is "), certified])
+            }
+            (None, Some(asked)) => {
+                let pieces = [
+                    Text(path),
+                    Text(" has no goal "),
                     number,
-                    " of ",
-                    path,
-                    " is ",
-                    certified.as_str(),
-                    ", and ",
-                    asked.as_str(),
-                    " is asked for",
-                ],
-            ),
-            (Some(certified), None) => text_of(
-                alloc,
-                &[
-                    path,
-                    " has more goals, goal ",
-                    number,
-                    " is ",
-                    certified.as_str(),
-                ],
-            ),
-            (None, Some(asked)) => text_of(
-                alloc,
-                &[
-                    path,
-                    " has no goal ",
-                    number,
-                    ", for which ",
-                    asked.as_str(),
-                    " is asked",
-                ],
-            ),
+                    Text(", for which "),
+                    Text(asked.as_str()),
+                    Text(" is asked"),
+                ];
+                text_with(alloc, &pieces)
+            }
             (None, None) => None,
         }
     }
@@ -104,6 +88,29 @@ impl GoalTexts {
             _ => None,
         }
     }
+}
+
+fn differs_at<'t>(
+    alloc: Global,
+    path: &'t str,
+    number: Piece<'t>,
+    certified: &'t str,
+    asked: &'t str,
+) -> Option<String> {
+    text_with(
+        alloc,
+        &[
+            Text("goal "),
+            number,
+            Text(" of "),
+            Text(path),
+            Text(" is "),
+            Text(certified),
+            Text(", and "),
+            Text(asked),
+            Text(" is asked for"),
+        ],
+    )
 }
 
 // The first place at which they differ, or the end of the shorter list.
@@ -122,7 +129,9 @@ fn read_texts<I: Inputs>(
     check: &Check<'_>,
     texts: &mut GoalTexts,
 ) -> Option<()> {
-    let files = LayerFiles::read(alloc, inputs, check.layers).ok()?;
+    let Ok(files) = LayerFiles::read(alloc, inputs, check.layers) else {
+        return None;
+    };
     let Ok(layers) = files.layers(alloc) else {
         return None;
     };
@@ -163,7 +172,9 @@ fn push_asked<I: Inputs>(
     names: &StackNames<'_, '_>,
     texts: &mut Vec<String>,
 ) -> Option<()> {
-    let words = asked_words(alloc, inputs, &check.goals).ok()?;
+    let Ok(words) = asked_words(alloc, inputs, &check.goals) else {
+        return None;
+    };
     push_for_words(alloc, names, &words, texts)
 }
 
@@ -173,8 +184,21 @@ fn push_for_words(
     words: &[String],
     texts: &mut Vec<String>,
 ) -> Option<()> {
-    let named = asked_goals(alloc, words).ok()?;
-    let goals = first_goals(alloc, names.stack(), &named, usize::MAX).ok()?;
+    let Ok(named) = asked_goals(alloc, words) else {
+        return None;
+    };
+    push_first_goals(alloc, names, &named, texts)
+}
+
+fn push_first_goals(
+    alloc: Global,
+    names: &StackNames<'_, '_>,
+    named: &[NamedGoal<'_>],
+    texts: &mut Vec<String>,
+) -> Option<()> {
+    let Ok(goals) = first_goals(alloc, names.stack(), named, usize::MAX) else {
+        return None;
+    };
     push_goals(alloc, names, &goals, texts)
 }
 
@@ -227,6 +251,11 @@ fn push_goal(
         Goal::Id(id) => write_goal_words(names, *id, &[], &mut text),
         Goal::Attr { attr, styles } => write_goal_words(names, *attr, styles, &mut text),
     };
-    written.ok()?;
-    texts.push(String::from_utf8(text).ok()?).ok()
+    if written.is_err() {
+        return None;
+    }
+    match String::from_utf8(text) {
+        Ok(text) => texts.push(text).ok(),
+        Err(_) => None,
+    }
 }

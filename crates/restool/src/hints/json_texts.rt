@@ -6,7 +6,7 @@ use crate::hints::content::{Expected, instead_of};
 use crate::hints::devices::{hint_of_device, hint_of_line};
 use crate::hints::kinds::{JsonFile, Kind, hint_of_kind, kind_of};
 use crate::hints::layers::hint_of_layers;
-use crate::request::Request;
+use crate::hints::named_files::NamedFiles;
 use command_base::{Inputs, LayersFault, LocaleRule, Side, ToolFault};
 use config_words::is_printed;
 use json_input::read_value;
@@ -16,7 +16,7 @@ use std::alloc::Global;
 impl<I: Inputs> Asked<'_, '_, I> {
     /// What is said of a fault, mostly of a JSON text.
     pub(crate) fn hint_of_fault(&self, fault: ToolFault) -> Option<String> {
-        let Some(file) = file_with(self.request, fault) else {
+        let Some(file) = file_with(&self.files, fault) else {
             return self.hint_of_layer(fault);
         };
         match file.expected {
@@ -29,20 +29,20 @@ impl<I: Inputs> Asked<'_, '_, I> {
         let JsonFile { expected, path } = file;
         let bytes = self.inputs.read_again(path)?;
         match read_value(self.alloc, &bytes) {
-            Ok(value) => hint_of_text(self.alloc, self.request, file, &value, fault),
+            Ok(value) => hint_of_text(self.alloc, &self.files, file, &value, fault),
             Err(_) => instead_of(self.alloc, Expected::Json(expected), path, &bytes),
         }
     }
 }
 
 // The JSON text that has a fault.
-fn file_with<'a>(request: &Request<'a>, fault: ToolFault) -> Option<JsonFile<'a>> {
+fn file_with<'a>(files: &NamedFiles<'_, 'a>, fault: ToolFault) -> Option<JsonFile<'a>> {
     let (expected, path) = match fault {
-        ToolFault::Layers(_) => (Kind::Layers, request.layers(Side::Old)),
-        ToolFault::SideLayers(side, _) => (Kind::Layers, request.layers(side)),
-        ToolFault::Device(_) => (Kind::Device, request.device()),
-        ToolFault::Box(_) => (Kind::Box, request.members()),
-        ToolFault::Certificate(_) => (Kind::Certificate, request.certificate()),
+        ToolFault::Layers(_) => (Kind::Layers, files.layers(Side::Old)),
+        ToolFault::SideLayers(side, _) => (Kind::Layers, files.layers(side)),
+        ToolFault::Device(_) => (Kind::Device, files.device),
+        ToolFault::Box(_) => (Kind::Box, files.members),
+        ToolFault::Certificate(_) => (Kind::Certificate, files.certificate),
         _ => return None,
     };
     match path {
@@ -53,14 +53,14 @@ fn file_with<'a>(request: &Request<'a>, fault: ToolFault) -> Option<JsonFile<'a>
 
 fn hint_of_text(
     alloc: Global,
-    request: &Request<'_>,
+    files: &NamedFiles<'_, '_>,
     file: JsonFile<'_>,
     value: &Value,
     fault: ToolFault,
 ) -> Option<String> {
     match kind_of(alloc, value) {
-        Some(kind) if kind != file.expected => hint_of_kind(alloc, request, file, kind),
-        _ => hint_of_value(alloc, value, request.rule(), fault),
+        Some(kind) if kind != file.expected => hint_of_kind(alloc, files.order, file, kind),
+        _ => hint_of_value(alloc, value, files.rule, fault),
     }
 }
 

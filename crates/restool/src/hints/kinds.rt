@@ -3,7 +3,6 @@
 use crate::hints::devices::is_fit;
 use crate::hints::members::{Member, coord_named, members_of};
 use crate::hints::text::text_of;
-use crate::request::Request;
 use json_input::list_of;
 use serde_json::Value;
 use std::alloc::Global;
@@ -49,7 +48,7 @@ pub(crate) struct JsonFile<'a> {
 /// What is said of a file that is of another kind.
 pub(crate) fn hint_of_kind(
     alloc: Global,
-    request: &Request<'_>,
+    order: &str,
     file: JsonFile<'_>,
     kind: Kind,
 ) -> Option<String> {
@@ -63,7 +62,7 @@ pub(crate) fn hint_of_kind(
             ", and no ",
             expected.name(),
             expected.form_for(kind),
-            order_of(request),
+            order,
         ],
     )
 }
@@ -98,23 +97,5 @@ fn kind_of_members(members: &[Member<'_>]) -> Option<Kind> {
         (true, false) => Some(Kind::Device),
         (false, true) => Some(Kind::Box),
         _ => None,
-    }
-}
-
-// In which order a command takes its files, where it takes several.
-fn order_of<'a>(request: &Request<'_>) -> &'a str {
-    match request {
-        Request::Query(_) => "; query takes LAYERS DEVICE ID..",
-        Request::Explain(_) => "; explain takes LAYERS DEVICE ID",
-        Request::Bag(_) => "; bag takes LAYERS DEVICE ID",
-        Request::Attr(_) => "; attr takes LAYERS DEVICE ATTR STYLE..",
-        Request::Make(_) => "; make takes LAYERS BOX GOAL..",
-        Request::Check(_) => "; check takes LAYERS BOX CERT GOAL..",
-        Request::Show(_) => "; show takes LAYERS CERT",
-        Request::Diff(_) => "; diff takes OLD NEW BOX NAME..",
-        Request::Values(_) => "; values takes LAYERS BOX NAME..",
-        Request::Unused(_) => "; unused takes LAYERS BOX NAME..",
-        Request::Survey(_) => "; survey takes LAYERS BOX",
-        _ => "",
     }
 }

@@ -46,9 +46,9 @@ impl<I: Inputs> Asked<'_, '_, I> {
 
     // The path of the file.
     fn path_of(&self, at: LayerAt, wrong: Wrong) -> Option<String> {
-        match self.request.layers(at.side) {
+        match self.files.layers(at.side) {
             Some(word) => path_among(self.alloc, &self.listed_paths(word)?, at.place, wrong),
-            None => own_path(self.alloc, self.request.table(at.place)?),
+            None => own_path(self.alloc, self.files.table(at.place)?),
         }
     }
 }

@@ -43,7 +43,7 @@ impl<I: Inputs> Asked<'_, '_, I> {
     // The list of layers that has a path.
     fn list_with(&self, path: &str) -> Option<&str> {
         for side in SIDES {
-            let list = self.request.layers(*side)?;
+            let list = self.files.layers(*side)?;
             if have_path(&self.listed_paths(list)?, path) {
                 return Some(list);
             }
@@ -95,7 +95,9 @@ fn push_paths(
 ) -> Option<()> {
     for layer in layers {
         let path = text_of(alloc, &[layer.path])?;
-        paths.push((path, None)).ok()?;
+        if paths.push((path, None)).is_err() {
+            return None;
+        }
     }
     Some(())
 }

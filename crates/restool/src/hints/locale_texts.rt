@@ -57,7 +57,9 @@ fn push_subtag(subtag: &str, tag: &mut String) -> Option<()> {
     if tag.is_empty() {
         return push_cased(subtag, Case::Lower, tag);
     }
-    tag.push('-').ok()?;
+    if tag.push('-').is_err() {
+        return None;
+    }
     let subtag = region_behind_r(subtag);
     let case = match subtag.len() {
         4 => Case::Title,
@@ -91,7 +93,9 @@ fn push_cased(subtag: &str, case: Case, tag: &mut String) -> Option<()> {
         } else {
             c.to_ascii_lowercase()
         };
-        tag.push(cased).ok()?;
+        if tag.push(cased).is_err() {
+            return None;
+        }
         is_upper = matches!(case, Case::Upper);
     }
     Some(())

@@ -2,7 +2,8 @@
 
 use crate::hints::nearest::Nearest;
 use crate::hints::qualifiers::{meaning, name_of, number_of_word};
-use crate::hints::text::{number_text, text_of};
+use crate::hints::text::Piece::{Number, Text};
+use crate::hints::text::{text_of, text_with};
 use command_base::Coord;
 use serde_json::Value;
 use std::alloc::Global;
@@ -27,7 +28,9 @@ pub(crate) fn members_of(alloc: Global, value: &Value) -> Option<Vec<Member<'_>>
     let mut members = Vec::new(alloc);
     for (name, value) in value.as_object()?.iter() {
         let name = name.as_str();
-        members.push(Member { name, value }).ok()?;
+        if members.push(Member { name, value }).is_err() {
+            return None;
+        }
     }
     Some(members)
 }
@@ -81,8 +84,7 @@ pub(crate) fn hint_of_value(alloc: Global, coord: Coord, value: &Value) -> Optio
 
 fn hint_of_word(alloc: Global, coord: Coord, word: &str) -> Option<String> {
     if let Some(number) = number_of_word(alloc, coord, word) {
-        let number = number_text(alloc, u64::from(number))?;
-        return hint_of_meant(alloc, word, number.as_str(), coord.name());
+        return hint_of_meant(alloc, word, u64::from(number), coord.name());
     }
     match word.parse::<u32>() {
         Ok(number) => hint_of_quotes(alloc, coord, u64::from(number)),
@@ -94,36 +96,45 @@ fn hint_of_word(alloc: Global, coord: Coord, word: &str) -> Option<String> {
 }
 
 // A word of resource folders.
-fn hint_of_meant(alloc: Global, word: &str, number: &str, name: &str) -> Option<String> {
-    text_of(alloc, &["\"", word, "\" is ", number, " at \"", name, "\""])
+fn hint_of_meant<'t>(alloc: Global, word: &'t str, number: u64, name: &'t str) -> Option<String> {
+    text_with(
+        alloc,
+        &[
+            Text("\""),
+            Text(word),
+            Text("\" is "),
+            Number(number),
+            Text(" at \""),
+            Text(name),
+            Text("\""),
+        ],
+    )
 }
 
 fn hint_of_quotes(alloc: Global, coord: Coord, number: u64) -> Option<String> {
-    let number = number_text(alloc, number)?;
-    text_of(
+    text_with(
         alloc,
         &[
-            "write ",
-            number.as_str(),
-            " without quotes at \"",
-            name_of(coord),
-            "\"",
+            Text("write "),
+            Number(number),
+            Text(" without quotes at \""),
+            Text(name_of(coord)),
+            Text("\""),
         ],
     )
 }
 
 /// A number that no device has.
 pub(crate) fn hint_of_number(alloc: Global, coord: Coord, number: u64) -> Option<String> {
-    let number = number_text(alloc, number)?;
-    text_of(
+    text_with(
         alloc,
         &[
-            "\"",
-            name_of(coord),
-            "\" is never ",
-            number.as_str(),
-            ": ",
-            meaning(coord),
+            Text("\""),
+            Text(name_of(coord)),
+            Text("\" is never "),
+            Number(number),
+            Text(": "),
+            Text(meaning(coord)),
         ],
     )
 }
@@ -134,7 +145,12 @@ pub(crate) fn hint_at_name(alloc: Global, name: &str, said: &str, means: &str) -
 }
 
 /// What is said of an item of a list, behind its place.
-pub(crate) fn hint_at_item(alloc: Global, place: usize, mark: &str, hint: &str) -> Option<String> {
-    let place = number_text(alloc, place as u64)?;
-    text_of(alloc, &["item ", place.as_str(), mark, hint])
+pub(crate) fn hint_at_item<'t>(
+    alloc: Global,
+    place: usize,
+    mark: &'t str,
+    hint: &'t str,
+) -> Option<String> {
+    let place = Number(place as u64);
+    text_with(alloc, &[Text("item "), place, Text(mark), Text(hint)])
 }

@@ -4,31 +4,69 @@ use crate::left::LayerWords;
 use crate::request::{Request, layer_words};
 use command_base::{LocaleRule, Side};
 
-impl<'a> Request<'a> {
+/// The words of a request, by what they name.
+#[derive(Clone, Copy)]
+pub(crate) struct NamedFiles<'t, 'a> {
+    layers: LayerWords<'a>,
+    /// Tables that have words of their own.
+    tables: LayerWords<'a>,
+    pub device: Option<&'a str>,
+    /// Where the box is.
+    pub members: Option<&'a str>,
+    pub certificate: Option<&'a str>,
+    /// The words that ask for resources or goals, where several may stand.
+    pub words: &'t [&'a str],
+    /// By which rule locales are read.
+    pub rule: LocaleRule,
+    /// In which order a command takes its files, where it takes several.
+    pub order: &'a str,
+}
+
+impl<'t, 'a> NamedFiles<'t, 'a> {
+    pub(crate) fn of(request: &'t Request<'a>) -> NamedFiles<'t, 'a> {
+        NamedFiles {
+            layers: layer_words(request),
+            tables: request.tables(),
+            device: request.device(),
+            members: request.members(),
+            certificate: request.certificate(),
+            words: request.words(),
+            rule: request.rule(),
+            order: request.order(),
+        }
+    }
+
     /// Where the layers are; of two stacks those of one side.
     pub(crate) fn layers(&self, side: Side) -> Option<&'a str> {
-        match layer_words(self) {
-            LayerWords::None => None,
-            LayerWords::One(word) => Some(word),
-            LayerWords::Both(old, new) => Some(match side {
-                Side::Old => old,
-                Side::New => new,
-            }),
+        match (self.layers, side) {
+            (LayerWords::None, _) => None,
+            (LayerWords::One(word), _)
+            | (LayerWords::Both(word, _), Side::Old)
+            | (LayerWords::Both(_, word), Side::New) => Some(word),
         }
     }
 
     /// Where the table of a layer is that has a word of its own.
     pub(crate) fn table(&self, place: usize) -> Option<&'a str> {
-        match (self, place) {
-            (Request::Rows(rows), 0) => Some(rows.table),
-            (Request::Dump(dump), 0) => Some(dump.table),
-            (Request::Map(map), 0) => Some(map.target),
-            (Request::Map(map), 1) => Some(map.overlay),
+        match (self.tables, place) {
+            (LayerWords::One(word) | LayerWords::Both(word, _), 0)
+            | (LayerWords::Both(_, word), 1) => Some(word),
             _ => None,
         }
     }
+}
 
-    pub(crate) fn device(&self) -> Option<&'a str> {
+impl<'a> Request<'a> {
+    fn tables(&self) -> LayerWords<'a> {
+        match self {
+            Request::Rows(rows) => LayerWords::One(rows.table),
+            Request::Dump(dump) => LayerWords::One(dump.table),
+            Request::Map(map) => LayerWords::Both(map.target, map.overlay),
+            _ => LayerWords::None,
+        }
+    }
+
+    fn device(&self) -> Option<&'a str> {
         match self {
             Request::Query(query) => Some(query.device),
             Request::Explain(explain) => Some(explain.device),
@@ -39,8 +77,7 @@ impl<'a> Request<'a> {
         }
     }
 
-    /// Where the box is.
-    pub(crate) fn members(&self) -> Option<&'a str> {
+    fn members(&self) -> Option<&'a str> {
         match self {
             Request::Survey(survey) => survey.box_path,
             Request::Make(make) => Some(make.box_path),
@@ -52,8 +89,7 @@ impl<'a> Request<'a> {
         }
     }
 
-    /// The words that ask for resources or goals, where several may stand.
-    pub(crate) fn words(&self) -> &[&'a str] {
+    fn words(&self) -> &[&'a str] {
         match self {
             Request::Query(query) => &query.words,
             Request::Attr(attr) => &attr.styles,
@@ -66,7 +102,7 @@ impl<'a> Request<'a> {
         }
     }
 
-    pub(crate) fn certificate(&self) -> Option<&'a str> {
+    fn certificate(&self) -> Option<&'a str> {
         match self {
             Request::Show(show) => Some(show.certificate),
             Request::Check(check) => Some(check.certificate),
@@ -74,8 +110,7 @@ impl<'a> Request<'a> {
         }
     }
 
-    /// By which rule locales are read.
-    pub(crate) fn rule(&self) -> LocaleRule {
+    fn rule(&self) -> LocaleRule {
         match self {
             Request::Survey(survey) => survey.locales,
             Request::Query(query) => query.locales,
@@ -89,6 +124,23 @@ impl<'a> Request<'a> {
             Request::Unused(unused) => unused.locales,
             Request::Device(form) => form.locales,
             _ => LocaleRule::LanguageAndRegion,
+        }
+    }
+
+    fn order(&self) -> &'a str {
+        match self {
+            Request::Query(_) => "; query takes LAYERS DEVICE ID..",
+            Request::Explain(_) => "; explain takes LAYERS DEVICE ID",
+            Request::Bag(_) => "; bag takes LAYERS DEVICE ID",
+            Request::Attr(_) => "; attr takes LAYERS DEVICE ATTR STYLE..",
+            Request::Make(_) => "; make takes LAYERS BOX GOAL..",
+            Request::Check(_) => "; check takes LAYERS BOX CERT GOAL..",
+            Request::Show(_) => "; show takes LAYERS CERT",
+            Request::Diff(_) => "; diff takes OLD NEW BOX NAME..",
+            Request::Values(_) => "; values takes LAYERS BOX NAME..",
+            Request::Unused(_) => "; unused takes LAYERS BOX NAME..",
+            Request::Survey(_) => "; survey takes LAYERS BOX",
+            _ => "",
         }
     }
 }

@@ -131,9 +131,9 @@ impl<I: Inputs> Asked<'_, '_, I> {
     // Prints the ids of all base layers.
     fn print_all_ids(&self, printed: &mut Vec<u8>) -> Option<Status> {
         let again = self.again();
-        let old = self.request.layers(Side::Old)?;
+        let old = self.files.layers(Side::Old)?;
         let status = print_ids(self.alloc, &again, old, printed)?;
-        let new = self.request.layers(Side::New)?;
+        let new = self.files.layers(Side::New)?;
         if new == old {
             return Some(status);
         }

@@ -1,7 +1,8 @@
 //! Overlays of which nothing maps.
 
 use crate::hints::Asked;
-use crate::hints::text::{number_text, text_of};
+use crate::hints::text::Piece::{Number, Text};
+use crate::hints::text::text_with;
 use command_base::{
     Inputs, LayerFiles, LayerParts, ListedLayer, Side, has_overlays, layers_in_word,
 };
@@ -23,11 +24,13 @@ impl<I: Inputs> Asked<'_, '_, I> {
     }
 
     fn hint_of_side(&self, side: Side) -> Option<String> {
-        let word = self.request.layers(side)?;
+        let word = self.files.layers(side)?;
         if !has_overlays(word) {
             return None;
         }
-        let files = LayerFiles::read(self.alloc, &self.again(), word).ok()?;
+        let Ok(files) = LayerFiles::read(self.alloc, &self.again(), word) else {
+            return None;
+        };
         hint_of_files(self.alloc, word, &files)
     }
 }
@@ -56,21 +59,16 @@ fn place_of_nothing(layers: &[LayerParts<&[u8]>]) -> Option<usize> {
 fn hint_of_nothing(alloc: Global, listed: &[ListedLayer<'_>], place: usize) -> Option<String> {
     let overlay = listed.get(place)?;
     let target = listed.get(overlay.base?)?;
-    nothing_maps(alloc, place, overlay.path, target.path)
-}
-
-fn nothing_maps(alloc: Global, place: usize, overlay: &str, target: &str) -> Option<String> {
-    let place = number_text(alloc, place as u64)?;
-    text_of(
+    text_with(
         alloc,
         &[
-            "nothing of layer ",
-            place.as_str(),
-            ", ",
-            overlay,
-            ", maps to ",
-            target,
-            ": does it stand behind the right base?",
+            Text("nothing of layer "),
+            Number(place as u64),
+            Text(", "),
+            Text(overlay.path),
+            Text(", maps to "),
+            Text(target.path),
+            Text(": does it stand behind the right base?"),
         ],
     )
 }

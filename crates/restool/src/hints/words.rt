@@ -2,7 +2,8 @@
 
 use crate::hints::Asked;
 use crate::hints::members::is_short;
-use crate::hints::text::{number_text, text_of};
+use crate::hints::text::Piece::{Number, Text};
+use crate::hints::text::{text_of, text_with};
 use command_base::{Inputs, LocaleRule, Named};
 use config_words::{ConfigWordFault, read_config_by};
 use names::file_path;
@@ -91,7 +92,7 @@ impl<I: Inputs> Asked<'_, '_, I> {
 
     // The file and the line of a word.
     fn place_of_word(&self, word: &str) -> Option<String> {
-        for asked in self.request.words() {
+        for asked in self.files.words {
             let place = self.place_in(*asked, word);
             if place.is_some() {
                 return place;
@@ -113,10 +114,10 @@ impl<I: Inputs> Asked<'_, '_, I> {
             let empty = "a word is empty: did the command fail that was to print it?";
             return text_of(self.alloc, &[empty]);
         }
-        if self.request.device() == Some(path) {
+        if self.files.device == Some(path) {
             return hint_of_unmarked(self.alloc, path);
         }
-        if name_file(self.request.words(), path) {
+        if name_file(self.files.words, path) {
             hint_of_marked(self.alloc, path)
         } else {
             None
@@ -139,8 +140,8 @@ fn line_with(alloc: Global, path: &str, bytes: &[u8], word: &str) -> Option<Stri
     let Ok(text) = str::from_utf8(bytes) else {
         return None;
     };
-    let number = number_text(alloc, number_of_line(text, word)?)?;
-    text_of(alloc, &[path, ", line ", number.as_str()])
+    let number = number_of_line(text, word)?;
+    text_with(alloc, &[Text(path), Text(", line "), Number(number)])
 }
 
 fn number_of_line(text: &str, word: &str) -> Option<u64> {
