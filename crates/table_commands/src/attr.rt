@@ -17,6 +17,7 @@ use crate::answered::answered;
 use crate::end_status::status_of_end;
 use crate::no_bag::print_no_bag;
 use crate::opened::Opened;
+use crate::text::print_text;
 use answer_notation::{Naming, attr_text};
 use answer_text::{NamesBeside, write_end_with_name, write_id};
 use command_base::{
@@ -212,8 +213,7 @@ impl Opened<'_> {
                 let naming = Naming::of(alloc, &self.stack, paths)?;
                 let text = attr_text(&naming, &self.device, force, attr, styles, slot)?;
                 drop(naming);
-                out.write_all(&text)?;
-                Ok(status)
+                print_text(status, &text, out)
             }
             Err(fault) => print_no_bag(fault, out),
         }

@@ -1,6 +1,7 @@
 //! The command `bag`.
 
-ghost use Rattle.std.specs.Prelude.{◌≡◌, map, string_bytes, Ok, IfSome};
+ghost use Rattle.answer_notation.specs.BagNotation.{rows_told};
+ghost use Rattle.std.specs.Prelude.{◌≡◌, map, string_bytes, Ok, IfOk, IfSome};
 ghost use Rattle.std.specs.List.{flat_map};
 ghost use Rattle.contract_words.specs.Writes.{Writes};
 ghost use Rattle.command_base.specs.FilesSeen.{device_held};
@@ -20,7 +21,7 @@ use answer_text::{NamesBeside, bag, write_id, write_layer, write_value};
 use command_base::{
     BagRow, DeviceFiles, Inputs, LayerParts, LocaleRule, Named, ResId, Status, Stop, ToolFault,
 };
-use std::alloc::Global;
+use std::alloc::{AllocError, Global};
 use std::io::{self, Write};
 
 /// What the words of `bag` ask: the rows of the bag that a resource selects for a device.
@@ -143,12 +144,26 @@ impl Opened<'_> {
     {
         match bag(alloc, &self.stack, id, &self.device) {
             Ok(rows) => {
-                let naming = Naming::of(alloc, &self.stack, paths)?;
-                let text = bag_text(&naming, id, rows.as_slice())?;
-                print_text(&text, out)
+                let text = self.rows_told(alloc, paths, id, rows.as_slice())?;
+                print_text(Status::Done, &text, out)
             }
             Err(fault) => print_no_bag(fault, out),
         }
+    }
+
+    // The text of its rows.
+    fn rows_told(
+        &self,
+        alloc: Global,
+        paths: &[String],
+        id: ResId,
+        rows: &[BagRow],
+    ) -> Result<Vec<u8>, AllocError>
+        ensures { IfOk result (λ text. text.items ≡
+            rows_told (record { stack = self.now.stack; paths = map string_bytes paths.now }) id.0 rows.now) }
+    {
+        let naming = Naming::of(alloc, &self.stack, paths)?;
+        bag_text(&naming, id, rows)
     }
 }
 

@@ -40,7 +40,7 @@ impl<'a> DeviceForm<'a> {
         ensures unwritten { IsKept out.old out.new result }
     {
         let text = self.text(alloc, inputs)?;
-        answered(print_text(&text, out))
+        answered(print_text(Status::Done, &text, out))
     }
 
     // The device in its other form.

@@ -61,7 +61,7 @@ fn dump_printed<W: Write + Drop>(
     let table = Table::open(alloc, table)?;
     if android {
         let text = answer_notation::dump_text(alloc, table)?;
-        return print_text(&text, out);
+        return print_text(Status::Done, &text, out);
     }
     dump_text(&table, out)?;
     Ok(Status::Done)

@@ -1,6 +1,8 @@
 //! The command `explain`.
 
-ghost use Rattle.std.specs.Prelude.{map, string_bytes, Ok, IfSome};
+ghost use Rattle.answer_notation.specs.ExplainNotation.{explain_notation};
+ghost use Rattle.command_base.specs.answer_text.config_record.DeviceSeen.{device_numbers};
+ghost use Rattle.std.specs.Prelude.{◌≡◌, map, string_bytes, Ok, IfOk, IfSome};
 ghost use Rattle.command_base.specs.FilesSeen.{device_held};
 ghost use Rattle.command_base.specs.Output.{Prints};
 ghost use Rattle.command_base.specs.StackBytesSeen.{layer_bytes};
@@ -12,12 +14,13 @@ ghost use Rattle.command_base.specs.CarriesOut.{IsKept};
 use crate::answered::answered;
 use crate::end_status::status_of_end;
 use crate::opened::{OpenId, Opened};
+use crate::text::print_text;
 use answer_notation::{Naming, explain_text};
 use answer_text::{NamesBeside, explain, resolve};
 use command_base::{
     DeviceFiles, Inputs, LayerParts, LocaleRule, Named, ResId, Status, Stop, ToolFault,
 };
-use std::alloc::Global;
+use std::alloc::{AllocError, Global};
 use std::io::Write;
 
 /// What the words of `explain` ask: how a resource comes to its end for a device.
@@ -140,10 +143,23 @@ impl Opened<'_> {
     ) -> Result<Status, ToolFault>
         ensures { Prints W.contents out.old out.new result (Ok (explain_in_notation (opened_of self.now) (map string_bytes paths.now) all id.0)) }
     {
+        let text = self.explanation(alloc, paths, all, id)?;
+        let status = status_of_end(resolve(&self.stack, id, &self.device));
+        print_text(status, &text, out)
+    }
+
+    // Its text.
+    fn explanation(
+        &self,
+        alloc: Global,
+        paths: &[String],
+        all: bool,
+        id: ResId,
+    ) -> Result<Vec<u8>, AllocError>
+        ensures { IfOk result (λ text. text.items ≡
+            explain_notation (record { stack = self.now.stack; paths = map string_bytes paths.now }) all (device_numbers self.now.device) id.0) }
+    {
         let naming = Naming::of(alloc, &self.stack, paths)?;
-        let text = explain_text(&naming, all, &self.device, id)?;
-        drop(naming);
-        out.write_all(&text)?;
-        Ok(status_of_end(resolve(&self.stack, id, &self.device)))
+        explain_text(&naming, all, &self.device, id)
     }
 }

@@ -6,6 +6,7 @@ ghost use Rattle.command_base.specs.declared.fault.ToolFault.TheVariants.{OutOfM
 ghost use Rattle.command_base.specs.Output.{Prints};
 ghost use Rattle.table_commands.specs.BagOutput.{no_bag};
 
+use crate::text::print_text;
 use command_base::{BagFault, Status, ToolFault};
 use std::io::Write;
 
@@ -16,7 +17,6 @@ pub(crate) fn print_no_bag<W: Write + Drop>(
     out: &mut W,
 ) -> Result<Status, ToolFault>
     ensures printed { fault ≢ of_bag.OutOfMemory → Prints W.contents out.old out.new result (Ok (no_bag fault)) }
-    ensures has_memory { fault ≢ of_bag.OutOfMemory → result ≢ Err OutOfMemory }
     ensures memory { fault ≡ of_bag.OutOfMemory → (result ≡ Err OutOfMemory) × (out.new ≡ out.old) }
 {
     let line = match fault {
@@ -25,6 +25,5 @@ pub(crate) fn print_no_bag<W: Write + Drop>(
         BagFault::BagDepth => "no bag BagDepth\n",
         BagFault::OutOfMemory => return Err(ToolFault::OutOfMemory),
     };
-    out.write_all(line.as_bytes())?;
-    Ok(Status::Negative)
+    print_text(Status::Negative, line.as_bytes(), out)
 }

@@ -1,5 +1,6 @@
 //! The command `query`.
 
+ghost use Rattle.answer_notation.specs.EndNotation.{ends_notation};
 ghost use Rattle.std.specs.Prelude.{◌≡◌, ◌++◌, map, string_bytes, Ok, IfOk, IfSome};
 ghost use Rattle.contract_words.specs.Writes.{Writes};
 ghost use Rattle.command_base.specs.answer_text.config_record.DeviceSeen.{device_numbers};
@@ -28,7 +29,7 @@ use command_base::{
     Status, Stop, ToolFault, asked_sets, rows_set_aside,
 };
 use names::ids_named;
-use std::alloc::Global;
+use std::alloc::{AllocError, Global};
 use std::io::{self, Write};
 
 /// What the words of `query` ask: the values that a device loads for some resources.
@@ -171,11 +172,24 @@ impl Opened<'_> {
     ) -> Result<Status, ToolFault>
         ensures { Prints W.contents out.old out.new result (Ok (query_notation (opened_of self.now) (map string_bytes paths.now) ids.now)) }
     {
-        let naming = Naming::of(alloc, &self.stack, paths)?;
-        let text = ends_text(&naming, &self.device, ids)?;
+        let text = self.ends_told(alloc, paths, ids)?;
         write_notation(&self.stack, &self.device, &text, out)?;
         let unresolved = has_unresolved(&self.stack, &self.device, ids);
         Ok(Status::negative_if(unresolved))
+    }
+
+    // The text of where the ids end.
+    fn ends_told(
+        &self,
+        alloc: Global,
+        paths: &[String],
+        ids: &[ResId],
+    ) -> Result<Vec<u8>, AllocError>
+        ensures { IfOk result (λ text. text.items ≡
+            ends_notation (record { stack = self.now.stack; paths = map string_bytes paths.now }) (device_numbers self.now.device) ids.now) }
+    {
+        let naming = Naming::of(alloc, &self.stack, paths)?;
+        ends_text(&naming, &self.device, ids)
     }
 }
 

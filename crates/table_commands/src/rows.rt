@@ -61,7 +61,7 @@ fn rows_printed<W: Write + Drop>(
     let table = Table::open(alloc, table)?;
     if android {
         let text = answer_notation::rows_text(alloc, table)?;
-        return print_text(&text, out);
+        return print_text(Status::Done, &text, out);
     }
     rows_text(&table, out)?;
     Ok(Status::Done)

@@ -4,7 +4,7 @@ use Rattle.table_commands.proofs.opened.Opened.bag_in_notation.Goals as goal
 
 pub returns-in_ok-text-in-Ok : goal.returns-in_ok-text-in-Ok
 returns-in_ok-text-in-Ok g c =
-    let text = rw (c.in_ok-naming-in-Ok.ensures, c.as_slice.ensures) at c.in_ok-text-in-Ok.ensures in
+    let text = rw c.as_slice.ensures at c.in_ok-text-in-Ok.ensures in
     rw c.in-Ok.ensures (rw (c.deref.ensures.value, text) at c.print_text.ensures)
 
 pub returns-in-Err : goal.returns-in-Err

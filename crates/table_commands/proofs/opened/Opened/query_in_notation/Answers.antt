@@ -5,6 +5,5 @@ use Rattle.table_commands.proofs.opened.Opened.query_in_notation.Goals as goal
 pub returns : goal.returns
 unfolding notation_text
 returns g c =
-    let text = rw c.in_ok-naming.ensures at c.in_ok-text.ensures in
-    let printed = rw (c.deref.ensures.value, text) at c.in_ok-write_notation.ensures in
+    let printed = rw (c.deref.ensures.value, c.in_ok-text.ensures) at c.in_ok-write_notation.ensures in
     (_, rw (c.negative_if.ensures, c.has_unresolved-unresolved.ensures) refl, printed)
