@@ -10,7 +10,7 @@ ghost use Rattle.diff_command.specs.Judged.{told_of};
 
 use crate::lines::{same_count, shared_count};
 use crate::told::Told;
-use answer_json::label_json;
+use answer_notation::label_json;
 use command_base::{LocaleRule, rows_set_aside};
 use stack_diff::{NamePair, PackageNames, Stacks};
 use std::alloc::{AllocError, Global};

@@ -7,10 +7,10 @@ use Rattle.stack_diff.specs.config_box.box_answers.NumberSet.{SetOf}
 use Rattle.stack_diff.specs.Difference.{RowDifferenceOf, RowRemoved, RowAdded, RowChanged, DifferenceOf, RowsDiffer, ContentsDiffer, FromNothing}
 use Rattle.stack_diff.specs.names.Packages.{PackageNameOf}
 use Rattle.answer_text.specs.Content.{RowKeyOf, ValueContentOf}
-use Rattle.answer_json.proofs.NoFloat.{NoFloat, put-no_float, items-no_float, text-no_float, key-no_float, row_value-no_float, content-no_float, devices-no_float}
-use Rattle.answer_json.specs.ContentJson.{key_data, row_value_data, content_data}
-use Rattle.answer_json.specs.DevicesJson.{devices_data}
-use Rattle.answer_json.specs.TextJson.{text_data, list_data}
+use Rattle.answer_notation.proofs.NoFloat.{NoFloat, put-no_float, items-no_float, text-no_float, key-no_float, row_value-no_float, content-no_float, devices-no_float}
+use Rattle.answer_notation.specs.ContentJson.{key_data, row_value_data, content_data}
+use Rattle.answer_notation.specs.DevicesJson.{devices_data}
+use Rattle.answer_notation.specs.TextJson.{text_data, list_data}
 use Rattle.resource_text.specs.ChangeJson.{device_words, with_key, with_row_value, with_row_change, row_change_data, with_devices, with_difference, change_data}
 
 with_key-no_float : (packages : List PackageNameOf) (key : RowKeyOf) (ms : Members) → NoFloat ms → NoFloat (with_key packages key ms)

@@ -1,6 +1,6 @@
 use Rattle.std.proofs.Common.{◌∙◌, ap}
 use Rattle.serde_json.specs.Written.{has_float, compact_text}
-use Rattle.answer_json.proofs.NoFloat.{text-no_float}
+use Rattle.answer_notation.proofs.NoFloat.{text-no_float}
 use Rattle.diff_command.proofs.json_lines.name_json.Goals as goal
 
 pub returns : goal.returns

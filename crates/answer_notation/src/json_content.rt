@@ -6,11 +6,11 @@ ghost use Rattle.names.specs.Label.{label_of};
 ghost use Rattle.answer_text.specs.ContentSeen.{value_content_of, row_key_of, row_content_of, content_of};
 ghost use Rattle.answer_text.specs.InForm.{value_in, key_in};
 ghost use Rattle.answer_text.specs.ValueText.{value_content_text};
-ghost use Rattle.answer_json.specs.TextJson.{text_data};
-ghost use Rattle.answer_json.specs.ContentJson.{label_data, with_value, value_data, key_data, row_value_data, row_data, with_content, content_data};
+ghost use Rattle.answer_notation.specs.TextJson.{text_data};
+ghost use Rattle.answer_notation.specs.ContentJson.{label_data, with_value, value_data, key_data, row_value_data, row_data, with_content, content_data};
 ghost use Rattle.notation.specs.declared.form.Form.TheVariants.{Android};
 
-use crate::text::text_json;
+use crate::json_text::text_json;
 use answer_text::{
     Content, Form, RowContent, RowKey, ValueContent, write_key_in, write_row_value_in,
     write_value_content, write_value_in,

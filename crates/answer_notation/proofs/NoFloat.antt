@@ -19,9 +19,9 @@ use Rattle.answer_text.specs.Content.{ValueContentOf, StringOf, GarbledOf, Broke
 use Rattle.answer_text.specs.InForm.{value_in, row_value_in}
 use Rattle.answer_text.specs.ValueText.{broken_text}
 use Rattle.notation.specs.declared.form.Form.TheVariants.{Android}
-use Rattle.answer_json.specs.TextJson.{text_data, number_data, list_data}
-use Rattle.answer_json.specs.ContentJson.{label_data, with_value, value_data, key_data, row_value_data, row_data, with_content, content_data}
-use Rattle.answer_json.specs.DevicesJson.{locale_data, set_data, with_narrower, devices_data}
+use Rattle.answer_notation.specs.TextJson.{text_data, number_data, list_data}
+use Rattle.answer_notation.specs.ContentJson.{label_data, with_value, value_data, key_data, row_value_data, row_data, with_content, content_data}
+use Rattle.answer_notation.specs.DevicesJson.{locale_data, set_data, with_narrower, devices_data}
 
 -- ---- lists
 

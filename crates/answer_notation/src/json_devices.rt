@@ -4,10 +4,10 @@ ghost use Rattle.std.specs.Prelude.{◌≡◌, map, fold, IfOk, OnOk};
 ghost use Rattle.serde_json.specs.View.{view, members_view};
 ghost use Rattle.config_box.specs.BoxSeen.{values_seen};
 ghost use Rattle.config_box.specs.box_answers.NumberSet.{RangeOf, locale_numbers};
-ghost use Rattle.answer_json.specs.TextJson.{number_data};
-ghost use Rattle.answer_json.specs.DevicesJson.{locale_data, set_data, with_narrower, devices_data};
+ghost use Rattle.answer_notation.specs.TextJson.{number_data};
+ghost use Rattle.answer_notation.specs.DevicesJson.{locale_data, set_data, with_narrower, devices_data};
 
-use crate::text::text_json;
+use crate::json_text::text_json;
 use config_box::{ConfigBox, Coord, Locale, Values};
 use locales::write_locale;
 use notation::is_narrower;

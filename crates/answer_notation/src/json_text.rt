@@ -2,7 +2,7 @@
 
 ghost use Rattle.std.specs.Prelude.{◌≡◌, IfOk};
 ghost use Rattle.serde_json.specs.View.{view};
-ghost use Rattle.answer_json.specs.TextJson.{text_data};
+ghost use Rattle.answer_notation.specs.TextJson.{text_data};
 
 use bstr::ByteSlice;
 use serde_json::Value;
