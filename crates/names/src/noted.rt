@@ -62,8 +62,8 @@ impl<'a> Noted<'a> {
 
     /// What each label stands for: the names, and the ids for which no name stands.
     pub fn into_labels(self) -> Result<BTreeMap<Label<'a>, ResId>, AllocError>
-        ensures labels { IfOk result (AddsLabels (map by_number (difference nat_cmp self.entry.ids self.entry.named)) self.entry.labels) }
-        ensures rising { OnOk result (IsOrdered nat_cmp self.entry.ids) }
+        ensures { IfOk result (λ labels. AddsLabels (map by_number (difference nat_cmp self.entry.ids self.entry.named)) self.entry.labels labels
+            × IsOrdered nat_cmp self.entry.ids) }
     {
         let Noted {
             mut labels,

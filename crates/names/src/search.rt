@@ -169,8 +169,7 @@ fn pass_row(
 ) -> Result<(), AllocError>
     requires places { ArePlacesOf places.now (entry_names sought.old) }
     requires passed { AreSought table.now passed.old sought.old }
-    ensures noted { OnOk result (sought.new ≡ map (noted table.now (row_of row.now)) sought.old) }
-    ensures passed { OnOk result (AreSought table.now passed.new sought.new) }
+    ensures { OnOk result ((sought.new ≡ map (noted table.now (row_of row.now)) sought.old) × AreSought table.now passed.new sought.new) }
 {
     if passed.has(row) {
         return Ok(());

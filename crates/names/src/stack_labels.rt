@@ -52,8 +52,8 @@ fn pass_row<'a>(
     noted: &mut Noted<'a>,
 ) -> Result<(), AllocError>
     requires { AreNoted table.now passed.old noted.old }
-    ensures noted { OnOk result (Notes (row.now.id.0 ∷ []) (named (row_of row.now) (name_of_row table.now (row_of row.now))) noted.old noted.new) }
-    ensures passed { OnOk result (AreNoted table.now passed.new noted.new) }
+    ensures { OnOk result (Notes (row.now.id.0 ∷ []) (named (row_of row.now) (name_of_row table.now (row_of row.now))) noted.old noted.new
+        × AreNoted table.now passed.new noted.new) }
 {
     if passed.has(row) {
         return Ok(());

@@ -1,8 +1,8 @@
 //! Characters that stand in UTF-8 as two surrogates.
 
-ghost use Rattle.std.specs.Prelude.{◌≡◌, ◌≤◌, IfOk, IfSome, length};
+ghost use Rattle.std.specs.Prelude.{◌≡◌, ◌≤◌, Some, IfOk, IfSome, length};
 ghost use Rattle.bstr.specs.Utf8.{continues};
-ghost use Rattle.names.specs.Surrogates.{surrogate_at, pair_at, with_pairs};
+ghost use Rattle.names.specs.Surrogates.{surrogate_at, pair_at, pair_of, with_pairs};
 
 use std::alloc::{AllocError, Global};
 
@@ -44,6 +44,14 @@ fn pair_at(bytes: &[u8]) -> Option<char>
 {
     let high = surrogate_at(bytes)?;
     let low = surrogate_at(&bytes[SURROGATE_SIZE..])?;
+    pair_of(high, low)
+}
+
+// The character of two surrogates, if they make a pair.
+#[tactic(auto, unfolding(crate::specs::Surrogates::pair_of))]
+fn pair_of(high: u32, low: u32) -> Option<char>
+    ensures { result ≡ pair_of (Some high) (Some low) }
+{
     if !(0xd800..0xdc00).contains(&high) || !(0xdc00..0xe000).contains(&low) {
         return None;
     }

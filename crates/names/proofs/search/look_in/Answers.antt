@@ -14,10 +14,10 @@ loop-row-preserved c =
     record {
       can = tt;
       ends = tt;
-      places = subst (λ (names : List (List ℕ)). ArePlacesOf c.args.places.now names) (sym (ap (λ (s : List Sought). entry_names s) c.in_ok-pass_row.ensures.noted ∙ entry_names-noted table row sought)) so_far.places;
-      passed = c.in_ok-pass_row.ensures.passed;
+      places = subst (λ (names : List (List ℕ)). ArePlacesOf c.args.places.now names) (sym (ap (λ (s : List Sought). entry_names s) c.in_ok-pass_row.ensures.0 ∙ entry_names-noted table row sought)) so_far.places;
+      passed = c.in_ok-pass_row.ensures.1;
       noted =
-          ap (λ (s : List Sought). map (noted_each table c.next.new.self) s) c.in_ok-pass_row.ensures.noted ∙ map-noted_each-next table row c.next.new.self sought
+          ap (λ (s : List Sought). map (noted_each table c.next.new.self) s) c.in_ok-pass_row.ensures.0 ∙ map-noted_each-next table row c.next.new.self sought
           ∙ ap (λ (rows : List RowOf). map (noted_each table rows) sought) (sym c.in-Some.ensures.steps) ∙ so_far.noted;
     }
 

@@ -7,8 +7,8 @@ use Rattle.names.proofs.stack_labels.note_rows.Goals as goal
 
 pub loop-row-preserved : goal.loop-row-preserved
 loop-row-preserved c = record {
-  noted = NotesAllBut-next _ _ _ _ _ _ _ _ _ c.loop-row.invariant.noted c.in-Some.ensures.steps c.in_ok-pass_row.ensures.noted;
-  passed = c.in_ok-pass_row.ensures.passed;
+  noted = NotesAllBut-next _ _ _ _ _ _ _ _ _ c.loop-row.invariant.noted c.in-Some.ensures.steps c.in_ok-pass_row.ensures.0;
+  passed = c.in_ok-pass_row.ensures.1;
 }
 
 pub returns : goal.returns

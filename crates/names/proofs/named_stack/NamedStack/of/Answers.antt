@@ -12,7 +12,7 @@ invariant_of-result c =
     let tables = seen c.deref.result.now in
     let bases = ap seen c.deref.ensures.value ∙ c.in_ok-tables.ensures in (
       has_labels c.args.stack.now tables c.new-noted.result c.note_tables.new.noted c.in_ok-labels.labels bases c.new-noted.ensures c.in_ok-note_tables.ensures
-          c.in_ok-labels.ensures.rising c.in_ok-labels.ensures.labels,
+          c.in_ok-labels.ensures.1 c.in_ok-labels.ensures.0,
       c.shared_in-shared.ensures.shared
           ∙ ap shared_of (shared-noted c.args.stack.now tables c.new-noted.result c.note_tables.new.noted bases c.new-noted.ensures c.in_ok-note_tables.ensures c.shared_in-shared.ensures.rising),
     )

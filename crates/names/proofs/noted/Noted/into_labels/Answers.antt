@@ -12,5 +12,5 @@ loop-id-init c = λ label.
 pub loop-id-preserved : goal.loop-id-preserved
 loop-id-preserved c = AddsAllBut-next c.args.self.labels c.loop-id.labels c.add_label.new.labels _ _ _ _ c.loop-id.invariant c.in-Some.ensures.steps c.in_ok-add_label.ensures.added
 
-pub returns-clause-labels : goal.returns-clause-labels
-returns-clause-labels c = AddsAllBut-end c.args.self.labels c.loop-id.labels _ _ c.loop-id.invariant c.in-None.ensures.steps.0
+pub returns : goal.returns
+returns c = (AddsAllBut-end c.args.self.labels c.loop-id.labels _ _ c.loop-id.invariant c.in-None.ensures.steps.0, c.difference-id-items.ensures.ordered_self)
