@@ -1,27 +1,29 @@
 //! The command `diff`.
 
-ghost use Rattle.std.specs.Prelude.{◌≡◌, map, option_map, string_bytes, Ok, IfSome};
+ghost use Rattle.std.specs.Prelude.{◌≡◌, map, Some, Ok, IfSome};
+ghost use Rattle.contract_words.specs.Exact.{GivesOr};
 ghost use Rattle.command_base.specs.Output.{Prints, PrintsOneOf};
-ghost use Rattle.command_base.specs.StackBytesSeen.{layer_bytes};
 ghost use Rattle.command_base.specs.Stop.{GivesOrStops};
-ghost use Rattle.command_base.specs.declared.fault.ToolFault.TheVariants.{Write};
+ghost use Rattle.command_base.specs.declared.fault.ToolFault.TheVariants.{OutOfMemory, Write};
 ghost use Rattle.stack_diff.specs.names.Pairs.{pair_of};
 ghost use Rattle.stack_diff.specs.Stacks.{stacks_of};
-ghost use Rattle.diff_command.specs.Diff.{Diffs, DiffsFiles, DiffsOpened, diff_files, diff_held, diff_opened};
+ghost use Rattle.diff_command.specs.Diff.{Diffs, DiffsFiles, DiffsOpened, diff_files, diff_held};
+ghost use Rattle.diff_command.specs.DiffInputs.{diff_inputs_by};
 ghost use Rattle.diff_command.specs.DiffOutput.{told_output, IsDiffOutput};
 ghost use Rattle.diff_command.specs.Judged.{told_of};
 ghost use Rattle.diff_command.specs.OpenedSeen.{named_diff};
 ghost use Rattle.command_base.specs.CarriesOut.{IsKept};
 
+use crate::answered::status_or_stop;
 use crate::asked_pairs::asked_pairs;
 use crate::json_lines::{names_json, write_diff_json};
 use crate::judged::tell_all;
-use crate::lines::{node_limit_line, some_differ, write_lines};
+use crate::lines::{print_node_limit, some_differ, write_lines};
 use crate::opened::{NamedDiff, OpenedDiff};
 use crate::told::Told;
 use command_base::{
-    Inputs, LayerFiles, LayerParts, LocaleRule, NamedSet, Progress, Side, Status, Stop, ToolFault,
-    asked_sets, asked_words, file_bytes,
+    Inputs, LayerFiles, LocaleRule, NamedSet, Progress, Side, Status, Stop, ToolFault, asked_sets,
+    asked_words, file_bytes,
 };
 use resource_text::LineForm;
 use stack_diff::{NamePair, Stacks};
@@ -71,6 +73,8 @@ impl<'a> Diff<'a> {
         self.answer_of(alloc, &files, progress, out)
     }
 
+    // Reads the words, opens the layers, reads the box, finds what the words ask for, and then prints what becomes of it.
+    #[tactic(auto, unfolding(crate::specs::Diff::opened_asked))]
     fn answer_of<P: Progress, W: Write + Drop>(
         &self,
         alloc: Global,
@@ -81,62 +85,10 @@ impl<'a> Diff<'a> {
         ensures answers { DiffsFiles W.contents out.old out.new self.now (Ok (diff_held files.now)) result }
         ensures unwritten { IsKept out.old out.new result }
     {
-        let old = files.old.layers(alloc)?;
-        let new = files.new.layers(alloc)?;
-        self.diff_of(
-            alloc,
-            &old,
-            &new,
-            &files.box_json,
-            &files.words,
-            progress,
-            out,
-        )
-    }
-
-    // Reads the words, opens the layers, reads the box, finds what the words ask for, and then prints what becomes of it.
-    #[tactic(auto, unfolding(crate::specs::Diff::opened_asked))]
-    fn diff_of<P: Progress, W: Write + Drop>(
-        &self,
-        alloc: Global,
-        old: &[LayerParts<&[u8]>],
-        new: &[LayerParts<&[u8]>],
-        box_json: &[u8],
-        words: &[String],
-        progress: &mut P,
-        out: &mut W,
-    ) -> Result<Status, Stop<'static>>
-        ensures answers { DiffsOpened W.contents out.old out.new self.now.form self.now.max_nodes
-            (diff_opened self.now.locales (map layer_bytes old.now) (map layer_bytes new.now) box_json.now (map string_bytes words.now)) result }
-        ensures unwritten { IsKept out.old out.new result }
-    {
-        let sets = asked_sets(alloc, words)?;
-        let opened = OpenedDiff::read_by(alloc, old, new, box_json, self.locales)?;
-        opened.diff_asked(alloc, self, &sets, progress, out)
-    }
-}
-
-impl OpenedDiff<'_> {
-    ghost use Rattle.diff_command.specs.AskedPairs.{asked_of};
-    ghost use Rattle.diff_command.specs.OpenedSeen.{opened_diff};
-    ghost use Rattle.stack_diff.specs.names.NamedSet.{named_set_of};
-
-    // Finds what words ask for, and then prints what becomes of it.
-    fn diff_asked<P: Progress, W: Write + Drop>(
-        &self,
-        alloc: Global,
-        asked: &Diff<'_>,
-        sets: &[NamedSet<'_>],
-        progress: &mut P,
-        out: &mut W,
-    ) -> Result<Status, Stop<'static>>
-        ensures answers { DiffsOpened W.contents out.old out.new asked.now.form asked.now.max_nodes
-            (asked_of (opened_diff self.now) (map named_set_of sets.now)) result }
-        ensures unwritten { IsKept out.old out.new result }
-    {
-        let named = self.named(alloc)?;
-        let pairs = asked_pairs(alloc, named.stacks(), sets)?;
-        Ok(named.diff(alloc, asked.form, &pairs, asked.max_nodes, progress, out)?)
+        let sets = asked_sets(alloc, &files.words)?;
+        let opened = OpenedDiff::of_files(alloc, files, self.locales)?;
+        let named = opened.named(alloc)?;
+        named.diff_asked(alloc, self, &sets, progress, out)
     }
 }
 
@@ -177,7 +129,46 @@ impl DiffFiles {
     }
 }
 
+impl<'a> OpenedDiff<'a> {
+    ghost use Rattle.diff_command.specs.OpenedSeen.{opened_diff};
+
+    // Opens the layers, and then reads the box.
+    fn of_files(
+        alloc: Global,
+        files: &'a DiffFiles,
+        rule: LocaleRule,
+    ) -> Result<OpenedDiff<'a>, ToolFault>
+        ensures { GivesOr OutOfMemory opened_diff result
+            (diff_inputs_by rule (diff_held files.now).old (diff_held files.now).new (diff_held files.now).box_json) }
+    {
+        let old = files.old.layers(alloc)?;
+        let new = files.new.layers(alloc)?;
+        OpenedDiff::read_by(alloc, &old, &new, &files.box_json, rule)
+    }
+}
+
 impl<'o, 'a> NamedDiff<'o, 'a> {
+    ghost use Rattle.diff_command.specs.AskedPairs.{asked_of};
+    ghost use Rattle.stack_diff.specs.names.NamedSet.{named_set_of};
+
+    // Finds what words ask for, and then prints what becomes of it.
+    fn diff_asked<P: Progress, W: Write + Drop>(
+        &self,
+        alloc: Global,
+        asked: &Diff<'_>,
+        sets: &[NamedSet<'_>],
+        progress: &mut P,
+        out: &mut W,
+    ) -> Result<Status, Stop<'static>>
+        ensures answers { DiffsOpened W.contents out.old out.new asked.now.form asked.now.max_nodes
+            (asked_of (named_diff self.now) (map named_set_of sets.now)) result }
+        ensures unwritten { IsKept out.old out.new result }
+    {
+        let pairs = asked_pairs(alloc, self.stacks(), sets)?;
+        let (form, most) = (asked.form, asked.max_nodes);
+        status_or_stop(self.diff(alloc, form, &pairs, most, progress, out))
+    }
+
     /// Prints what the new layers say otherwise than the old ones, for some labels and all devices of the box; the status is
     /// Done where nothing differs. Or it prints `node limit`, where the trees that part the devices can have more than
     /// `max_nodes` nodes together. All memory is taken before the first line is written.
@@ -202,7 +193,10 @@ impl<'o, 'a> NamedDiff<'o, 'a> {
             max_nodes,
             progress,
         )?;
-        print_told(alloc, form, self.rule, stacks, pairs, told, out)
+        match told {
+            Some(told) => print_told(alloc, form, self.rule, stacks, pairs, &told, out),
+            None => print_node_limit(form, out),
+        }
     }
 }
 
@@ -214,21 +208,17 @@ fn print_told<W: Write + Drop>(
     rule: LocaleRule,
     stacks: Stacks<'_, '_>,
     pairs: &[NamePair<'_>],
-    told: Option<Vec<Told>>,
+    told: &[Told],
     out: &mut W,
 ) -> Result<Status, ToolFault>
-    ensures { Prints W.contents out.old out.new result (Ok (told_output form rule (stacks_of stacks.entry) (map pair_of pairs.now) (option_map (λ all. map told_of all.items) told))) }
+    ensures { Prints W.contents out.old out.new result (Ok (told_output form rule (stacks_of stacks.entry) (map pair_of pairs.now) (Some (map told_of told.now)))) }
 {
-    let Some(told) = told else {
-        out.write_all(node_limit_line(form))?;
-        return Ok(Status::Negative);
-    };
     match form {
-        LineForm::Text(_) => write_lines(rule, stacks, pairs, &told, out)?,
+        LineForm::Text(_) => write_lines(rule, stacks, pairs, told, out)?,
         LineForm::Json => {
             let names = names_json(alloc, stacks.packages(), pairs)?;
-            write_diff_json(rule, stacks, pairs, &names, &told, out)?;
+            write_diff_json(rule, stacks, pairs, &names, told, out)?;
         }
     }
-    Ok(Status::negative_if(some_differ(&told)))
+    Ok(Status::negative_if(some_differ(told)))
 }

@@ -46,6 +46,7 @@
 //! ```
 #![tactic(auto)]
 
+mod answered;
 mod asked_pairs;
 mod diff;
 mod json_lines;

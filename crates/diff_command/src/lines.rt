@@ -1,8 +1,10 @@
 //! What two stacks say differently, written.
 
-ghost use Rattle.std.specs.Prelude.{◌≡◌, length, map};
+ghost use Rattle.std.specs.Prelude.{◌≡◌, length, map, Ok};
 ghost use Rattle.std.specs.List.{flat_map};
 ghost use Rattle.contract_words.specs.Writes.{Writes};
+ghost use Rattle.command_base.specs.Output.{Prints};
+ghost use Rattle.command_base.specs.declared.status.Status.TheVariants.{Negative};
 ghost use Rattle.stack_diff.specs.names.Label.{label_of};
 ghost use Rattle.stack_diff.specs.names.Pairs.{pair_of};
 ghost use Rattle.stack_diff.specs.names.Shared.{shared_ids};
@@ -13,7 +15,7 @@ ghost use Rattle.diff_command.specs.DiffOutput.{node_limit_line};
 ghost use Rattle.diff_command.specs.DiffLines.{block_lines, told_lines, label_lines, says_same, same_count, some_differ, counts_line, shared_names_line, set_aside_line, diff_lines};
 
 use crate::told::Told;
-use command_base::{LocaleRule, rows_set_aside};
+use command_base::{LocaleRule, Status, ToolFault, rows_set_aside};
 use resource_text::LineForm;
 use stack_diff::{Label, NamePair, NamedStack, PackageNames, Stacks};
 use std::io::{self, Write};
@@ -187,8 +189,18 @@ fn says_same(told: &Told) -> bool
 
 // ---- the limit
 
-/// The line in place of all, where trees have more nodes than the limit.
-pub(crate) fn node_limit_line(form: LineForm) -> &'static [u8]
+/// Prints one line in place of all, where trees have more nodes than the limit.
+pub(crate) fn print_node_limit<W: Write + Drop>(
+    form: LineForm,
+    out: &mut W,
+) -> Result<Status, ToolFault>
+    ensures { Prints W.contents out.old out.new result (Ok (record { status = Negative; text = node_limit_line form })) }
+{
+    out.write_all(node_limit_line(form))?;
+    Ok(Status::Negative)
+}
+
+fn node_limit_line(form: LineForm) -> &'static [u8]
     ensures { result.now ≡ node_limit_line form }
 {
     match form {

@@ -1,8 +1,9 @@
 //! The command `unused`.
 
-ghost use Rattle.std.specs.Prelude.{◌≡◌, map, option_map, Ok, IfSome};
+ghost use Rattle.std.specs.Prelude.{◌≡◌, ◌++◌, ◌∷◌, [], codes, map, option_map, Some, Ok, IfSome};
 ghost use Rattle.command_base.specs.CarriesOut.{IsKept};
 ghost use Rattle.command_base.specs.Output.{Prints, PrintsOneOf};
+ghost use Rattle.command_base.specs.declared.status.Status.TheVariants.{Negative};
 ghost use Rattle.command_base.specs.declared.fault.ToolFault.TheVariants.{OutOfMemory, Write};
 ghost use Rattle.stack_diff.specs.names.NameFault.{GivesNamed};
 ghost use Rattle.stack_diff.specs.names.NamedSet.{named_set_of};
@@ -10,6 +11,7 @@ ghost use Rattle.diff_command.specs.Unused.{IsUnusedOutput, TellsUnused, TellsUn
 ghost use Rattle.diff_command.specs.UnusedOutput.{unused_output};
 ghost use Rattle.diff_command.specs.Values.{opened_values, values_held};
 
+use crate::answered::status_or_stop;
 use crate::unused_rows::push_layers;
 use crate::values::{OpenedValues, ValuesFiles};
 use command_base::{Inputs, LocaleRule, NamedSet, Status, Stop, ToolFault, asked_sets};
@@ -63,7 +65,7 @@ impl<'a> Unused<'a> {
         let sets = asked_sets(alloc, &files.words)?;
         let opened = OpenedValues::read(alloc, files, self.locales)?;
         let asked = asked_ids(alloc, &opened.stack, &sets)?;
-        Ok(tell_unused(alloc, opened, asked, self.max_nodes, out)?)
+        status_or_stop(tell_unused(alloc, opened, asked, self.max_nodes, out))
     }
 }
 
@@ -101,23 +103,29 @@ fn tell_unused<W: Write + Drop>(
         asked.as_deref(),
         max_nodes as usize,
     )?;
-    print_unused(alloc, stack, uses, out)
+    match uses {
+        Some(uses) => print_unused(alloc, stack, &uses, out),
+        None => print_node_limit(out),
+    }
+}
+
+fn print_node_limit<W: Write + Drop>(out: &mut W) -> Result<Status, ToolFault>
+    ensures { Prints W.contents out.old out.new result (Ok (record { status = Negative; text = codes "node limit" ++ 10 ∷ [] })) }
+{
+    out.write_all(b"node limit\n")?;
+    Ok(Status::Negative)
 }
 
 fn print_unused<W: Write + Drop>(
     alloc: Global,
     stack: Stack<'_>,
-    uses: Option<Vec<Vec<Option<RowUse>>>>,
+    uses: &[Vec<Option<RowUse>>],
     out: &mut W,
 ) -> Result<Status, ToolFault>
-    ensures { Prints W.contents out.old out.new result (Ok (unused_output stack.entry (option_map (λ all. map (λ of_layer. of_layer.items) all.items) uses))) }
+    ensures { Prints W.contents out.old out.new result (Ok (unused_output stack.entry (Some (map (λ of_layer. of_layer.items) uses.now)))) }
 {
-    let Some(uses) = uses else {
-        out.write_all(b"node limit\n")?;
-        return Ok(Status::Negative);
-    };
     let mut text = Vec::new(alloc);
-    let totals = push_layers(alloc, stack, &uses, &mut text)?;
+    let totals = push_layers(alloc, stack, uses, &mut text)?;
     out.write_all(&text)?;
     totals.write(out)?;
     Ok(Status::negative_if(totals.unused > 0))

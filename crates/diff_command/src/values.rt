@@ -1,6 +1,6 @@
 //! The command `values`.
 
-ghost use Rattle.std.specs.Prelude.{◌≡◌, map, option_map, Ok, IfOk, IfSome};
+ghost use Rattle.std.specs.Prelude.{◌≡◌, map, Some, Ok, IfOk, IfSome};
 ghost use Rattle.contract_words.specs.Exact.{GivesOr};
 ghost use Rattle.command_base.specs.CarriesOut.{IsKept};
 ghost use Rattle.command_base.specs.Output.{IsOfInput, Prints, PrintsOneOf};
@@ -15,10 +15,11 @@ ghost use Rattle.diff_command.specs.Judged.{told_of};
 ghost use Rattle.diff_command.specs.Values.{TellsValues, TellsValuesOf, ValuesOpened, alone, opened_values, values_files, values_held, values_inputs_by};
 ghost use Rattle.diff_command.specs.ValuesOutput.{values_output, IsValuesOutput};
 
+use crate::answered::status_or_stop;
 use crate::asked_pairs::asked_pairs;
 use crate::json_lines::{names_json, write_values_json};
 use crate::judged::tell_all;
-use crate::lines::node_limit_line;
+use crate::lines::print_node_limit;
 use crate::told::Told;
 use crate::value_lines::write_value_lines;
 use command_base::{
@@ -179,15 +180,8 @@ impl<'a> OpenedValues<'a> {
         ensures unwritten { IsKept out.old out.new result }
     {
         let pairs = asked_pairs(alloc, stacks, sets)?;
-        Ok(self.values(
-            alloc,
-            asked.form,
-            stacks,
-            &pairs,
-            asked.max_nodes,
-            progress,
-            out,
-        )?)
+        let (form, most) = (asked.form, asked.max_nodes);
+        status_or_stop(self.values(alloc, form, stacks, &pairs, most, progress, out))
     }
 
     /// Prints what the resources of some labels say, on which devices of the box; or `node limit`, where the trees that part the
@@ -215,7 +209,10 @@ impl<'a> OpenedValues<'a> {
             max_nodes,
             progress,
         )?;
-        print_values(alloc, form, self.rule, stacks, pairs, told, out)
+        match told {
+            Some(told) => print_values(alloc, form, self.rule, stacks, pairs, &told, out),
+            None => print_node_limit(form, out),
+        }
     }
 }
 
@@ -234,20 +231,16 @@ fn print_values<W: Write + Drop>(
     rule: LocaleRule,
     stacks: Stacks<'_, '_>,
     pairs: &[NamePair<'_>],
-    told: Option<Vec<Told>>,
+    told: &[Told],
     out: &mut W,
 ) -> Result<Status, ToolFault>
-    ensures { Prints W.contents out.old out.new result (Ok (values_output form rule (stacks_of stacks.entry) (map pair_of pairs.now) (option_map (λ all. map told_of all.items) told))) }
+    ensures { Prints W.contents out.old out.new result (Ok (values_output form rule (stacks_of stacks.entry) (map pair_of pairs.now) (Some (map told_of told.now)))) }
 {
-    let Some(told) = told else {
-        out.write_all(node_limit_line(form))?;
-        return Ok(Status::Negative);
-    };
     match form {
-        LineForm::Text(_) => write_value_lines(rule, stacks, pairs, &told, out)?,
+        LineForm::Text(_) => write_value_lines(rule, stacks, pairs, told, out)?,
         LineForm::Json => {
             let names = names_json(alloc, stacks.packages(), pairs)?;
-            write_values_json(rule, stacks, pairs, &names, &told, out)?;
+            write_values_json(rule, stacks, pairs, &names, told, out)?;
         }
     }
     Ok(Status::Done)
