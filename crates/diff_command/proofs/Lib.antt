@@ -6,6 +6,7 @@ pub mod SameBytes
 pub mod Counts
 pub mod Kept
 pub mod Blocks
+pub mod Mapped
 pub mod Valued
 pub mod UsedRows
 pub mod PrintedUnused

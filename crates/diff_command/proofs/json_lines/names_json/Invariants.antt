@@ -5,4 +5,4 @@ use Rattle.diff_command.proofs.json_lines.names_json.Given as goal
 
 -- those of the pairs so far
 abbrev pub invariant-loop-pair : goal.invariant-loop-pair
-invariant-loop-pair l = map (λ name. name.items) l.names.items ≡ map (name_json l.packages) (map pair_of (take l.pair-index l.pairs))
+invariant-loop-pair l = map (λ name. name.items) l.names.items ≡ map (λ pair. name_json l.packages (pair_of pair)) (take l.pair-index l.pairs)
