@@ -11,9 +11,12 @@ use Rattle.command_base.specs.declared.stop.Stop.TheVariants.{Tool}
 use Rattle.command_base.specs.Output.{Output, Prints}
 use Rattle.table_commands.specs.BagOutput.{no_bag}
 use Rattle.table_commands.specs.MapOutput.{MapOutput, PrintsBoth}
-use Rattle.command_base.specs.Stop.{StopOf, stop_of, tool}
+use Rattle.command_base.specs.Stop.{StopOf, stop_of, stop_of_name, tool}
 use Rattle.command_base.specs.Inputs.{Places}
-use Rattle.command_base.specs.CarriesOut.{CarriesOut, IsKept}
+use Rattle.command_base.specs.names.NameFault.{NameFaultOf, name_fault_of}
+use Rattle.command_base.specs.names.declared.fault.NameFault.{NameFault}
+use Rattle.command_base.specs.names.declared.fault.NameFault.TheVariants as names
+use Rattle.command_base.specs.CarriesOut.{CarriesOut, IsKept, found_or_stop}
 
 pub stops_unread : {X Y : Type 0} (Command : Result Y StopOf → X → Result Status ToolFault → Type 0) (f : Y → Result X StopOf) (known : Option Places)
     (read : Places → Result Y StopOf) (stop : Stop)
@@ -88,3 +91,11 @@ pub both_refused : {W V : Type 0} (contents : W → Option (List ℕ)) (says : V
 both_refused contents says stream errors OutOfMemory meant is of_input = (refl, refl)
 both_refused contents says stream errors Write meant is of_input = absurd (of_input refl)
 both_refused contents says stream errors fault meant is of_input = (is (λ same. cc), refl, refl)
+
+-- ---- of a name that stands for no resource
+
+pub found_stops : {X : Type 0} (found : Result X NameFaultOf) (fault : NameFault) → (fault ≢ names.OutOfMemory → found ≡ Err (name_fault_of fault))
+    → stop_of (stop_of_name fault) ≢ tool OutOfMemory → found_or_stop found ≡ Err (stop_of (stop_of_name fault))
+found_stops found names.OutOfMemory is told = absurd (told refl)
+found_stops found (names.NoResource name) is told = rw (is (λ same. cc)) refl
+found_stops found (names.TwoResources both) is told = rw (is (λ same. cc)) refl

@@ -1,5 +1,5 @@
 use Rattle.std.proofs.Common.{◌≡◌, ℕ, List, Option, Some, Result, Ok, option_map, slice_get, refl, ap, subst, sym, ◌∙◌}
-use Rattle.std.proofs.lemmas.Option.{slice_get-map, slice_get_read}
+use Rattle.std.proofs.lemmas.Option.{slice_get-map, slice_get_read, slice_get_past}
 use Rattle.std.specs.Io.KnownBytes.{Appends}
 use Rattle.command_base.specs.declared.fault.ToolFault.{ToolFault}
 use Rattle.command_base.specs.overlay_map.Layer.{LayerOf}
@@ -30,3 +30,9 @@ returns-in_ok-write_all-in-Some g c =
       ap answer meant,
       subst (λ (t : List ℕ). Appends old new t) text c.in_ok-write_all-in-Some.ensures.bytes,
     )
+
+pub returns-in_ok-write_no_goal-in-None : goal.returns-in_ok-write_no_goal-in-None
+returns-in_ok-write_no_goal-in-None g c =
+    let goals = c.args.self.now.certificate.goals.items in
+    let there = slice_get_past goals c.args.goal (rw c.as_slice.ensures.value at c.in-None.ensures.lookup.3) in
+    (_, rw (slice_get-map goal_of goals c.args.goal, there) refl, c.in_ok-write_no_goal-in-None.ensures)

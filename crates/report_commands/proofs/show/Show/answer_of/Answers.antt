@@ -1,6 +1,6 @@
 use Rattle.std.proofs.lemmas.Result.{err_from_is_err_and}
 use Rattle.report_commands.proofs.Refusing.{kept_at_fault}
-use Rattle.std.proofs.Common.{refl, inr}
+use Rattle.std.proofs.Common.{refl}
 use Rattle.report_commands.specs.Show.{show_held}
 use Rattle.report_commands.proofs.show.Show.answer_of.Goals as goal
 
@@ -13,9 +13,3 @@ pub returns-in_err-print-clause-unwritten : goal.returns-in_err-print-clause-unw
 returns-in_err-print-clause-unwritten g c =
     let p = err_from_is_err_and c.from_residual-in_err-print.result c.from_residual-in_err-print.ensures.1 in
     rw (p.1, p.2) (kept_at_fault g.W.Write.contents c.args.out.now c.print.new.out c.in_err-print.field-0.0 _ c.in_err-print.ensures)
-
-pub returns-in_err-print-clause-answers : goal.returns-in_err-print-clause-answers
-returns-in_err-print-clause-answers g c =
-    let p = err_from_is_err_and c.from_residual-in_err-print.result c.from_residual-in_err-print.ensures.1 in
-    let printed = rw (c.deref.ensures.value, c.deref-2.ensures.value, c.in_ok-layers.ensures) at c.in_err-print.ensures in
-    rw (p.1, p.2) (λ told. inr (show_held c.args.files.now, c.in_err-print.field-0.0, refl, refl, printed))
