@@ -49,8 +49,7 @@ impl<'t, 'a> FirstRows<'t, 'a> {
 
 #[tactic(auto, using(crate::proofs::FirstRowSteps::first_steps))]
 fn first_rows<'a>(alloc: Global, table: &Table<'a>) -> Result<BTreeMap<u32, Row<'a>>, AllocError>
-    ensures ids { IfOk result (AreIdsOf (rows_of table.now)) }
-    ensures first { IfOk result (AreFirstOf (rows_of table.now)) }
+    ensures { IfOk result (λ rows. AreIdsOf (rows_of table.now) rows × AreFirstOf (rows_of table.now) rows) }
 {
     let mut rows = BTreeMap::new(alloc);
     for row in table.all_rows() {

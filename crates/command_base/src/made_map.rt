@@ -76,8 +76,8 @@ fn left_of(
     overlay: &Table<'_>,
     pairs: &[(ResId, ResId)],
 ) -> Result<Left, AllocError>
-    ensures lines { IfOk result (λ left. left.lines.items ≡ lines_with before.now overlay.now (pairs_of pairs.now)) }
-    ensures none { IfOk result (λ left. left.is_none ≡ is_whole overlay.now (pairs_of pairs.now)) }
+    ensures { IfOk result (λ left. (left.lines.items ≡ lines_with before.now overlay.now (pairs_of pairs.now))
+        × (left.is_none ≡ is_whole overlay.now (pairs_of pairs.now))) }
 {
     let first = FirstRows::new(alloc, overlay)?;
     let mapped = MappedIds::new(alloc, pairs)?;
@@ -92,8 +92,8 @@ fn left_among<'a>(
     mapped: &MappedIds<'_>,
 ) -> Result<Left, AllocError>
     requires { first.now.table.now ≡ overlay.now }
-    ensures lines { IfOk result (λ left. left.lines.items ≡ lines_with before.now overlay.now (pairs_of mapped.now.pairs.now)) }
-    ensures none { IfOk result (λ left. left.is_none ≡ is_whole overlay.now (pairs_of mapped.now.pairs.now)) }
+    ensures { IfOk result (λ left. (left.lines.items ≡ lines_with before.now overlay.now (pairs_of mapped.now.pairs.now))
+        × (left.is_none ≡ is_whole overlay.now (pairs_of mapped.now.pairs.now))) }
 {
     let unmapped = unmapped_rows(alloc, first, mapped)?;
     let astray = astray_references(alloc, overlay, first, mapped)?;

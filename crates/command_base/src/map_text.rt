@@ -16,8 +16,7 @@ use std::io::{self, Write};
 /// Writes a map as a JSON list, with a line for each pair.
 #[tactic(auto, unfolding(crate::specs::MapText::map_text))]
 pub(crate) fn write_map<W: Write + Drop>(pairs: &[(ResId, ResId)], out: &mut W) -> io::Result<()>
-    ensures text { Writes W.contents out.old out.new result (map_text (pairs_of pairs.now)) }
-    ensures reads_back { OnOk result (All IdsReadBack pairs.now) }
+    ensures { Writes W.contents out.old out.new result (map_text (pairs_of pairs.now)) × OnOk result (All IdsReadBack pairs.now) }
 {
     let Some((first, others)) = pairs.split_first() else {
         return out.write_all(b"[]\n");
@@ -30,8 +29,7 @@ pub(crate) fn write_map<W: Write + Drop>(pairs: &[(ResId, ResId)], out: &mut W) 
 
 #[tactic(auto, using(contract_words::proofs::TextSteps::puts_slice))]
 fn write_others<W: Write + Drop>(pairs: &[(ResId, ResId)], out: &mut W) -> io::Result<()>
-    ensures text { Writes W.contents out.old out.new result (flat_map next_pair_text (pairs_of pairs.now)) }
-    ensures reads_back { OnOk result (All IdsReadBack pairs.now) }
+    ensures { Writes W.contents out.old out.new result (flat_map next_pair_text (pairs_of pairs.now)) × OnOk result (All IdsReadBack pairs.now) }
 {
     for pair in pairs {
         write_next_pair(*pair, out)?;
@@ -41,8 +39,7 @@ fn write_others<W: Write + Drop>(pairs: &[(ResId, ResId)], out: &mut W) -> io::R
 
 #[tactic(auto, unfolding(crate::specs::MapText::next_pair_text))]
 fn write_next_pair<W: Write + Drop>(pair: (ResId, ResId), out: &mut W) -> io::Result<()>
-    ensures text { Writes W.contents out.old out.new result (next_pair_text (pair_seen pair)) }
-    ensures reads_back { OnOk result (IdsReadBack pair) }
+    ensures { Writes W.contents out.old out.new result (next_pair_text (pair_seen pair)) × OnOk result (IdsReadBack pair) }
 {
     out.write_all(b",\n ")?;
     write_pair(pair, out)
@@ -50,8 +47,7 @@ fn write_next_pair<W: Write + Drop>(pair: (ResId, ResId), out: &mut W) -> io::Re
 
 #[tactic(auto, unfolding(crate::specs::MapText::pair_text))]
 fn write_pair<W: Write + Drop>(pair: (ResId, ResId), out: &mut W) -> io::Result<()>
-    ensures text { Writes W.contents out.old out.new result (pair_text (pair_seen pair)) }
-    ensures reads_back { OnOk result (IdsReadBack pair) }
+    ensures { Writes W.contents out.old out.new result (pair_text (pair_seen pair)) × OnOk result (IdsReadBack pair) }
 {
     let (target, own) = pair;
     out.write_all(b"[\"")?;

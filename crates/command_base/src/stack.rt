@@ -50,8 +50,7 @@ pub fn open_side<'a>(
 #[tactic(auto, using(crate::proofs::StackSteps::stack_steps))]
 fn open_layers<'a>(alloc: Global, layers: &[LayerParts<&'a [u8]>]) -> Result<Stack<'a>, ToolFault>
     requires { length layers.now ≤ most_layers }
-    ensures value { GivesOr OutOfMemory (λ stack. stack) result (layers_from 0 (map layer_bytes layers.now)) }
-    ensures of_input { IsOfInput result }
+    ensures { GivesOr OutOfMemory (λ stack. stack) result (layers_from 0 (map layer_bytes layers.now)) × IsOfInput result }
 {
     let mut stack = Stack::new(alloc);
     for layer in layers {
@@ -68,9 +67,8 @@ fn push_layer<'a>(
     stack: &mut Stack<'a>,
 ) -> Result<(), ToolFault>
     requires { length stack.old < most_layers }
-    ensures value { GivesOr OutOfMemory (λ _. stack.new) result
-        (with_layer stack.old (layer_in (length stack.old) (layer_bytes layer.entry))) }
-    ensures of_input { IsOfInput result }
+    ensures { GivesOr OutOfMemory (λ _. stack.new) result (with_layer stack.old (layer_in (length stack.old) (layer_bytes layer.entry)))
+        × IsOfInput result }
 {
     let place = stack.len();
     let (table, json) = layer;
@@ -92,8 +90,7 @@ pub fn open_table(alloc: Global, layer: usize, bytes: &[u8]) -> Result<Table<'_>
 
 // The id map of the layer at a place, None at a base.
 fn read_map(alloc: Global, layer: usize, json: Option<&[u8]>) -> Result<Option<IdMap>, ToolFault>
-    ensures value { GivesOr OutOfMemory (λ map. map) result (map_of_layer layer (option_map (λ bytes. bytes.now) json.entry)) }
-    ensures of_input { IsOfInput result }
+    ensures { GivesOr OutOfMemory (λ map. map) result (map_of_layer layer (option_map (λ bytes. bytes.now) json.entry)) × IsOfInput result }
 {
     let Some(json) = json else {
         return Ok(None);
@@ -107,9 +104,8 @@ fn read_map(alloc: Global, layer: usize, json: Option<&[u8]>) -> Result<Option<I
 // Pushes a table as an overlay with its id map or, without one, as a base.
 fn push<'a>(table: Table<'a>, map: Option<IdMap>, stack: &mut Stack<'a>) -> Result<(), ToolFault>
     requires { length stack.old < most_layers }
-    ensures value { GivesOr OutOfMemory (λ _. stack.new) result
-        (Ok (stack.old ++ record { table = table.entry; map = map } ∷ [])) }
-    ensures of_input { IsOfInput result }
+    ensures { GivesOr OutOfMemory (λ _. stack.new) result (Ok (stack.old ++ record { table = table.entry; map = map } ∷ []))
+        × IsOfInput result }
 {
     match map {
         Some(map) => match stack.push_overlay(table, map) {

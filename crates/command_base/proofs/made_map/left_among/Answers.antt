@@ -1,4 +1,4 @@
-use Rattle.std.proofs.Common.{◌≡◌, ℕ, Bool, List, length, vec_len, ap, sym, ◌∙◌, arith}
+use Rattle.std.proofs.Common.{◌≡◌, ℕ, Bool, List, length, vec_len, ap, sym, ◌∙◌, arith, rules}
 use Rattle.std.specs.Prelude.{◌==◌, ◌&&◌}
 use Rattle.std.proofs.lemmas.List.{length-map}
 use Rattle.command_base.specs.overlay_map.IdMap.{pairs_of}
@@ -9,8 +9,8 @@ use Rattle.command_base.specs.AstraySeen.{astray_of}
 use Rattle.command_base.proofs.made_map.left_among.Goals.{then-is_empty, else-is_empty}
 use Rattle.command_base.proofs.made_map.left_among.Goals as goal
 
-pub returns-clause-none : goal.returns-clause-none
-returns-clause-none c =
+pub returns : goal.returns
+returns c =
     let pairs = pairs_of c.args.mapped.now.pairs.now in
     let overlay = c.args.overlay.now in
     let rows = c.in_ok-unmapped.unmapped in
@@ -18,12 +18,14 @@ returns-clause-none c =
     let of_overlay = c.in_ok-unmapped.ensures ∙ ap (λ (table : TableOf). unmapped table pairs) c.requires in
     let left : vec_len rows ≡ length (unmapped overlay pairs) = omega (arith, ap (λ (t : List RowOf). length t) of_overlay, length-map rows.items row_of, rows.ok) in
     let gone : vec_len found ≡ length (astray overlay pairs) = omega (arith, ap (λ (t : List AstrayOf). length t) c.in_ok-astray.ensures, length-map found.items astray_of, found.ok) in
-    let none = c.is_empty.ensures ∙ ap (λ (count : ℕ). count == 0) left in
-    elim c.if-is_empty.branch [
-      | then-is_empty w ↦
-          w.result-is
-          ∙ w.is_empty-then-is_empty.ensures
-          ∙ ap (λ (count : ℕ). count == 0) gone
-          ∙ ap (λ (none : Bool). none && length (astray overlay pairs) == 0) (sym w.if-is_empty.true ∙ none)
-      | else-is_empty w ↦ w.result-is ∙ w.if-is_empty.false ∙ ap (λ (none : Bool). none && length (astray overlay pairs) == 0) (sym w.if-is_empty.false ∙ none)
-    ]
+    let none = c.is_empty.ensures ∙ ap (λ (count : ℕ). count == 0) left in (
+      search rules,
+      elim c.if-is_empty.branch [
+        | then-is_empty w ↦
+            w.result-is
+            ∙ w.is_empty-then-is_empty.ensures
+            ∙ ap (λ (count : ℕ). count == 0) gone
+            ∙ ap (λ (none : Bool). none && length (astray overlay pairs) == 0) (sym w.if-is_empty.true ∙ none)
+        | else-is_empty w ↦ w.result-is ∙ w.if-is_empty.false ∙ ap (λ (none : Bool). none && length (astray overlay pairs) == 0) (sym w.if-is_empty.false ∙ none)
+      ],
+    )

@@ -13,6 +13,6 @@ returns-clause-reads_back c =
 
 pub returns-clause-whole : goal.returns-clause-whole
 returns-clause-whole c =
-    c.in_ok-left.ensures.none
+    c.in_ok-left.ensures.1
     ∙ ap (λ (pairs : List IdPair). is_whole c.args.overlay.now (pairs_of pairs)) c.deref-2.ensures.value
     ∙ ap (λ (made : MapOf). is_whole c.args.overlay.now made) c.in_ok-pairs.ensures
