@@ -34,7 +34,12 @@ pub(crate) fn is_unknown(values: Values<'_>) -> bool
 fn are_zero(numbers: &[u32]) -> bool
     ensures { result ≡ list_all (λ n. n == 0) numbers.now }
 {
-    numbers.iter().all(|number| *number == 0)
+    for number in numbers {
+        if *number != 0 {
+            return false;
+        }
+    }
+    true
 }
 
 fn are_unknown(locales: &[Locale]) -> bool

@@ -74,7 +74,12 @@ fn has_newer(config: &[u8]) -> bool
 fn is_zero(bytes: &[u8]) -> bool
     ensures { result ≡ is_zero bytes.now }
 {
-    bytes.iter().all(|byte| *byte == 0)
+    for byte in bytes {
+        if *byte != 0 {
+            return false;
+        }
+    }
+    true
 }
 
 impl Findings {

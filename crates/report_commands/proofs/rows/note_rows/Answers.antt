@@ -1,5 +1,5 @@
 use Rattle.std.proofs.Common.{sym, ◌∙◌}
-use Rattle.report_commands.proofs.FindingsSteps.{noted-next}
+use Rattle.report_commands.proofs.FindingsSteps.{noted-next, noted-end}
 use Rattle.report_commands.proofs.rows.note_rows.Goals as goal
 
 pub loop-row-preserved : goal.loop-row-preserved
@@ -7,3 +7,6 @@ loop-row-preserved c =
     let row = rw c.strings-strings.ensures at c.note_row.ensures in
     let step = noted-next _ _ _ _ _ _ c.in-Some.ensures.steps row in
     record { can = tt; ends = tt; left = sym step ∙ c.loop-row.invariant.left }
+
+pub returns : goal.returns
+returns c = sym (noted-end _ _ _ c.in-None.ensures.steps.0) ∙ c.loop-row.invariant.left

@@ -1,5 +1,5 @@
 use Rattle.std.proofs.Common.{sym, ◌∙◌}
-use Rattle.report_commands.proofs.FindingsSteps.{noted-next}
+use Rattle.report_commands.proofs.FindingsSteps.{noted-next, noted-end}
 use Rattle.report_commands.specs.Chunks.{notes_of_package_child}
 use Rattle.report_commands.proofs.findings.Findings.add_package.Goals as goal
 
@@ -7,3 +7,6 @@ pub loop-child-preserved : goal.loop-child-preserved
 loop-child-preserved c =
     let step = noted-next _ _ notes_of_package_child _ _ _ c.in-Some.ensures.steps c.add_package_child.ensures in
     record { can = tt; ends = tt; left = sym step ∙ c.loop-child.invariant.left }
+
+pub returns : goal.returns
+returns c = sym (noted-end _ _ _ c.in-None.ensures.steps.0) ∙ c.loop-child.invariant.left
