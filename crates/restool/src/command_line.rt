@@ -3,7 +3,7 @@
 ghost use Rattle.std.specs.Prelude.{◌≡◌, false, IfOk, IfErr};
 ghost use Rattle.clap.specs.Words.{app_of, kind_of, rule_of};
 ghost use Rattle.clap.specs.Simple.{shape_of, with_subcommand};
-ghost use Rattle.restool.specs.Request.{command_line, program_alone, with_all};
+ghost use Rattle.restool.specs.Request.{command_line, program_alone};
 ghost use Rattle.restool.specs.ArgumentsSeen.{IsLocal, rule_seen, command_seen, with_arguments, with_commands};
 
 use crate::request::USAGES;
@@ -277,16 +277,6 @@ pub(crate) fn command_line<'a>(alloc: Global) -> Result<Command<'a>, clap::Error
     ensures memory { IfErr result (λ error. kind_of error ≡ ErrorKind.OutOfMemory) }
 {
     let program = program_alone(alloc);
-    with_all(alloc, program)
-}
-
-#[tactic(auto, unfolding(crate::specs::Request::with_all))]
-fn with_all<'a>(alloc: Global, program: Command<'a>) -> Result<Command<'a>, clap::Error>
-    requires { IsLocal program }
-    ensures app { IfOk result (λ whole. app_of whole ≡ with_all (app_of program.entry)) }
-    ensures local { IfOk result IsLocal }
-    ensures memory { IfErr result (λ error. kind_of error ≡ ErrorKind.OutOfMemory) }
-{
     with_commands(alloc, program, USAGES)
 }
 

@@ -9,5 +9,6 @@ unfolding with_all program_alone command_line
 whole = refl
 
 pub returns-clause-app : goal.returns-clause-app
+unfolding with_all
 returns-clause-app c =
-    subst (λ (app : App). IfOk c.with_all.result (λ program. app_of program ≡ app)) (ap with_all c.program_alone-program.ensures.app ∙ whole) c.with_all.ensures.app
+    subst (λ (app : App). IfOk c.with_commands.result (λ program. app_of program ≡ app)) (ap with_all c.program_alone-program.ensures.app ∙ whole) c.with_commands.ensures.app
