@@ -1,5 +1,5 @@
 -- What the maps leave out that are made of the overlays of a word: the lines of `map`, each behind its layer.
-use Rattle.std.specs.Prelude.{ℕ, ◌&&◌, Bool, List, [], length, slice_get, Option, None, Result, Ok, Err, if◌then◌else◌}
+use Rattle.std.specs.Prelude.{ℕ, ◌&&◌, Bool, List, [], length, slice_get, Option, Some, None, Result, Ok, Err, if◌then◌else◌}
 use Rattle.std.specs.List.{list_any}
 use Rattle.std.specs.Option.{option_map_or}
 use Rattle.contract_words.specs.Faults.{◌>>=◌}

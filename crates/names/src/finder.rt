@@ -22,7 +22,7 @@ use crate::ids::ids_of_type;
 use crate::named::Named;
 use crate::named_set::NamedSet;
 use crate::package_word::PackageWord;
-use crate::packages::{PackageName, Packages, is_asked_in, packages_in};
+use crate::packages::{PackageName, PackageNames, Packages, is_asked_in};
 use crate::search::find_each;
 use crate::wanted::Wanted;
 use overlay_map::{ResId, Stack, Table};
@@ -54,7 +54,7 @@ impl<'s, 'a, 'n> Finder<'s, 'a, 'n> {
         ensures { IfOk result (Tells stack.now (map wanted_of names.now)) }
     {
         let tables = stack.base_tables(alloc)?;
-        let packages = packages_in(alloc, &tables)?;
+        let packages = PackageNames::of(alloc, &tables)?.all;
         let of_tables = Packages { all: &packages };
         let found = find_each(alloc, of_tables, &tables, names)?.into_iter();
         Ok(Finder {

@@ -47,7 +47,8 @@ impl<'a> PackageNames<'a> {
     pub fn of(alloc: Global, tables: &[&Table<'a>]) -> Result<PackageNames<'a>, AllocError>
         ensures { IfOk result (λ packages. packages ≡ packages_in (map (λ table. table.now) tables.now)) }
     {
-        let all = packages_in(alloc, tables)?;
+        let mut all = Vec::new(alloc);
+        push_packages_in(alloc, tables, &mut all)?;
         Ok(PackageNames { all })
     }
 
@@ -99,19 +100,7 @@ impl PackageName<'_> {
     }
 }
 
-/// Those of all packages of some tables, in their order.
-pub(crate) fn packages_in<'a>(
-    alloc: Global,
-    tables: &[&Table<'a>],
-) -> Result<Vec<PackageName<'a>>, AllocError>
-    ensures { IfOk result (λ all. map package_name_of all.items ≡ packages_in (map (λ table. table.now) tables.now)) }
-{
-    let mut all = Vec::new(alloc);
-    push_packages_in(alloc, tables, &mut all)?;
-    Ok(all)
-}
-
-// Pushes them behind others.
+// Pushes those of tables behind others.
 fn push_packages_in<'a>(
     alloc: Global,
     tables: &[&Table<'a>],

@@ -39,8 +39,7 @@ pub fn with_pairs(alloc: Global, bytes: &[u8]) -> Result<Vec<u8>, AllocError>
 // The character of a pair that stands at the front.
 #[tactic(auto, unfolding(crate::specs::Surrogates::pair_at, crate::specs::Surrogates::pair_of))]
 fn pair_at(bytes: &[u8]) -> Option<char>
-    ensures pair { result ≡ pair_at bytes.now }
-    ensures within { IfSome result (λ character. 6 ≤ length bytes.now) }
+    ensures { (result ≡ pair_at bytes.now) × IfSome result (λ character. 6 ≤ length bytes.now) }
 {
     let high = surrogate_at(bytes)?;
     let low = surrogate_at(&bytes[SURROGATE_SIZE..])?;
@@ -61,8 +60,7 @@ fn pair_of(high: u32, low: u32) -> Option<char>
 // The number of three bytes that stand at the front, where they are spelled as a surrogate is.
 #[tactic(auto, unfolding(crate::specs::Surrogates::surrogate_at))]
 fn surrogate_at(bytes: &[u8]) -> Option<u32>
-    ensures surrogate { result ≡ surrogate_at bytes.now }
-    ensures within { IfSome result (λ number. 3 ≤ length bytes.now) }
+    ensures { (result ≡ surrogate_at bytes.now) × IfSome result (λ number. 3 ≤ length bytes.now) }
 {
     let [0xed, second, third, ..] = bytes else {
         return None;

@@ -12,6 +12,9 @@ use Rattle.names.proofs.SoughtPassed.{AreSought-next}
 use Rattle.names.proofs.SoughtSteps.{is_noted, is_noted-nowhere}
 use Rattle.names.proofs.search.pass_row.Goals as goal
 
+pub returns-then-has : goal.returns-then-has
+returns-then-has c = (sym (c.requires.passed (row_of c.args.row.now) (sym c.has.ensures ∙ c.if-has.true)), c.requires.passed)
+
 pub returns-in_default : goal.returns-in_default
 returns-in_default c =
     let name = ap (λ (read : Result TextOf StringFault). name_text read) c.key_name.ensures in

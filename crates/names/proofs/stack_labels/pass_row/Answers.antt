@@ -6,7 +6,6 @@ use Rattle.names.specs.Label.{LabelOf, label_of}
 use Rattle.names.specs.Noted.{Notes}
 use Rattle.names.specs.StackLabels.{named}
 use Rattle.names.proofs.NotesSteps.{AreNoted-next, Notes-kept}
-use Rattle.names.proofs.Pushed.{on-ok}
 use Rattle.names.proofs.stack_labels.pass_row.Goals as goal
 
 pub returns-then-has : goal.returns-then-has

@@ -7,7 +7,7 @@ use Rattle.names.proofs.finder.Finder.new.Goals as goal
 
 pub returns : goal.returns
 returns c =
-    let packages = c.in_ok-packages.ensures ∙ ap (λ (tables : List (Bor Table)). packages_in (map (λ table. table.now) tables)) c.deref.ensures.value ∙ ap packages_in c.in_ok-tables.ensures in
+    let packages = c.packages.view_is ∙ c.in_ok-packages.ensures ∙ ap (λ (tables : List (Bor Table)). packages_in (map (λ table. table.now) tables)) c.deref.ensures.value ∙ ap packages_in c.in_ok-tables.ensures in
     record {
       tables = c.in_ok-tables.ensures;
       packages = packages;
