@@ -1,6 +1,6 @@
 //! What is printed of an id map.
 
-ghost use Rattle.std.specs.Prelude.{map, OnOk};
+ghost use Rattle.std.specs.Prelude.{◌++◌, map, OnOk};
 ghost use Rattle.std.specs.List.{All, flat_map};
 ghost use Rattle.contract_words.specs.Writes.{Writes};
 ghost use Rattle.command_base.specs.overlay_map.IdMap.{pairs_of};
@@ -21,8 +21,7 @@ pub(crate) fn write_map<W: Write + Drop>(pairs: &[(ResId, ResId)], out: &mut W) 
     let Some((first, others)) = pairs.split_first() else {
         return out.write_all(b"[]\n");
     };
-    out.write_all(b"[")?;
-    write_pair(*first, out)?;
+    write_pair(b"[", *first, out)?;
     write_others(others, out)?;
     out.write_all(b"]\n")
 }
@@ -32,24 +31,18 @@ fn write_others<W: Write + Drop>(pairs: &[(ResId, ResId)], out: &mut W) -> io::R
     ensures { Writes W.contents out.old out.new result (flat_map next_pair_text (pairs_of pairs.now)) × OnOk result (All IdsReadBack pairs.now) }
 {
     for pair in pairs {
-        write_next_pair(*pair, out)?;
+        write_pair(b",\n ", *pair, out)?;
     }
     Ok(())
 }
 
-#[tactic(auto, unfolding(crate::specs::MapText::next_pair_text))]
-fn write_next_pair<W: Write + Drop>(pair: (ResId, ResId), out: &mut W) -> io::Result<()>
-    ensures { Writes W.contents out.old out.new result (next_pair_text (pair_seen pair)) × OnOk result (IdsReadBack pair) }
-{
-    out.write_all(b",\n ")?;
-    write_pair(pair, out)
-}
-
+// Writes a pair, and what stands before it.
 #[tactic(auto, unfolding(crate::specs::MapText::pair_text))]
-fn write_pair<W: Write + Drop>(pair: (ResId, ResId), out: &mut W) -> io::Result<()>
-    ensures { Writes W.contents out.old out.new result (pair_text (pair_seen pair)) × OnOk result (IdsReadBack pair) }
+fn write_pair<W: Write + Drop>(before: &[u8], pair: (ResId, ResId), out: &mut W) -> io::Result<()>
+    ensures { Writes W.contents out.old out.new result (before.now ++ pair_text (pair_seen pair)) × OnOk result (IdsReadBack pair) }
 {
     let (target, own) = pair;
+    out.write_all(before)?;
     out.write_all(b"[\"")?;
     write_id(target, out)?;
     out.write_all(b"\",\"")?;

@@ -11,14 +11,13 @@ pub returns : goal.returns
 unfolding map_text
 returns g c =
     let old = g.W.Write.contents c.args.out.now in
-    let new = g.W.Write.contents c.write_all-3.new.self in
+    let new = g.W.Write.contents c.write_all-2.new.self in
     let written : List ℕ = codes "[" ++ pair_text (pair_seen c.in-Some.first.now) ++ flat_map next_pair_text (pairs_of c.in-Some.others.now) in
-    let to_first = Appends-trans _ _ _ _ _ c.in_ok-write_all.ensures.bytes c.in_ok-write_pair.ensures.0 in
-    let to_others = Appends-trans _ _ _ _ _ to_first c.in_ok-write_others.ensures.0 in (
-      on_ok_weaker c.write_all-3.result
+    let to_others = Appends-trans _ _ _ _ _ c.in_ok-write_pair.ensures.0 c.in_ok-write_others.ensures.0 in (
+      on_ok_weaker c.write_all-2.result
           (λ last.
           subst (λ (pairs : List IdPair). Appends old new (map_text (pairs_of pairs))) (sym c.in-Some.ensures.cases.0)
           (subst (λ (text : List ℕ). Appends old new text) (sym (append_assoc written (codes "]") (10 ∷ []))) (Appends-trans _ _ _ _ _ to_others last)))
-          c.write_all-3.ensures.bytes,
+          c.write_all-2.ensures.bytes,
       search rules,
     )
