@@ -10,7 +10,7 @@ ghost use Rattle.command_base.specs.Stop.{GivesOrStops};
 ghost use Rattle.command_base.specs.declared.fault.ToolFault.TheVariants.{Write};
 ghost use Rattle.command_base.specs.names.Named.{named_of};
 ghost use Rattle.table_commands.specs.OpenedSeen.{opened_of};
-ghost use Rattle.table_commands.specs.AttrOutput.{attribute_line, attr_answer, attr_in_notation, attr_printed, attr_output, attr_seen, attr_opened, PrintsAttr, PrintsAttrFiles};
+ghost use Rattle.table_commands.specs.AttrOutput.{attribute_line, attr_answer, attr_in_notation, attr_output, attr_seen, attr_opened, PrintsAttr, PrintsAttrFiles};
 ghost use Rattle.command_base.specs.CarriesOut.{IsKept};
 
 use crate::answered::answered;
@@ -81,14 +81,21 @@ impl<'a> Attr<'a> {
             self.attr,
             &files.words,
         )?;
-        answered(asked.print(
-            alloc,
-            self.android,
-            self.names,
-            self.force,
-            files.layers.paths(),
-            out,
-        ))
+        answered(if self.android {
+            let paths = files.layers.paths();
+            asked
+                .opened
+                .attr_in_notation(alloc, paths, asked.attr, &asked.styles, self.force, out)
+        } else {
+            asked.opened.attr(
+                alloc,
+                asked.attr,
+                &asked.styles,
+                self.force,
+                self.names,
+                out,
+            )
+        })
     }
 }
 
@@ -123,27 +130,6 @@ impl<'a> OpenAttr<'a> {
             attr,
             styles,
         })
-    }
-
-    // The tables of the layers lie at these paths.
-    fn print<W: Write + Drop>(
-        &self,
-        alloc: Global,
-        android: bool,
-        names: bool,
-        force: bool,
-        paths: &[String],
-        out: &mut W,
-    ) -> Result<Status, ToolFault>
-        ensures { Prints W.contents out.old out.new result (Ok (attr_printed android names force (map string_bytes paths.now) (attr_seen self.now))) }
-    {
-        if android {
-            self.opened
-                .attr_in_notation(alloc, paths, self.attr, &self.styles, force, out)
-        } else {
-            self.opened
-                .attr(alloc, self.attr, &self.styles, force, names, out)
-        }
     }
 }
 

@@ -8,8 +8,8 @@ ghost use Rattle.command_base.specs.FilesSeen.{device_held};
 ghost use Rattle.command_base.specs.Output.{Prints};
 ghost use Rattle.command_base.specs.StackBytesSeen.{layer_bytes};
 ghost use Rattle.command_base.specs.declared.fault.ToolFault.TheVariants.{Write};
-ghost use Rattle.table_commands.specs.OpenedSeen.{opened_of, id_seen};
-ghost use Rattle.table_commands.specs.BagOutput.{id_and_layer, bag_row_line, bag_answer, bag_in_notation, bag_printed, bag_output, PrintsBag, PrintsBagFiles};
+ghost use Rattle.table_commands.specs.OpenedSeen.{opened_of};
+ghost use Rattle.table_commands.specs.BagOutput.{id_and_layer, bag_row_line, bag_answer, bag_in_notation, bag_output, PrintsBag, PrintsBagFiles};
 ghost use Rattle.command_base.specs.CarriesOut.{IsKept};
 
 use crate::answered::answered;
@@ -72,26 +72,12 @@ impl<'a> Bag<'a> {
             self.locales,
             self.resource,
         )?;
-        answered(asked.bag(alloc, self, files.layers.paths(), out))
-    }
-}
-
-impl OpenId<'_> {
-    // The tables of the layers lie at these paths.
-    fn bag<W: Write + Drop>(
-        &self,
-        alloc: Global,
-        asked: &Bag<'_>,
-        paths: &[String],
-        out: &mut W,
-    ) -> Result<Status, ToolFault>
-        ensures { Prints W.contents out.old out.new result (Ok (bag_printed asked.now (map string_bytes paths.now) (id_seen self.now))) }
-    {
-        if asked.android {
-            self.opened.bag_in_notation(alloc, paths, self.id, out)
+        answered(if self.android {
+            let paths = files.layers.paths();
+            asked.opened.bag_in_notation(alloc, paths, asked.id, out)
         } else {
-            self.opened.bag(alloc, self.id, asked.names, out)
-        }
+            asked.opened.bag(alloc, asked.id, self.names, out)
+        })
     }
 }
 

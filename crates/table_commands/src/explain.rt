@@ -7,8 +7,8 @@ ghost use Rattle.command_base.specs.FilesSeen.{device_held};
 ghost use Rattle.command_base.specs.Output.{Prints};
 ghost use Rattle.command_base.specs.StackBytesSeen.{layer_bytes};
 ghost use Rattle.command_base.specs.declared.fault.ToolFault.TheVariants.{Write};
-ghost use Rattle.table_commands.specs.OpenedSeen.{opened_of, id_seen};
-ghost use Rattle.table_commands.specs.ExplainOutput.{explain_answer, explain_in_notation, explain_printed, explain_output, Explains, ExplainsFiles};
+ghost use Rattle.table_commands.specs.OpenedSeen.{opened_of};
+ghost use Rattle.table_commands.specs.ExplainOutput.{explain_answer, explain_in_notation, explain_output, Explains, ExplainsFiles};
 ghost use Rattle.command_base.specs.CarriesOut.{IsKept};
 
 use crate::answered::answered;
@@ -73,27 +73,14 @@ impl<'a> Explain<'a> {
             self.locales,
             self.resource,
         )?;
-        answered(asked.explain(alloc, self, files.layers.paths(), out))
-    }
-}
-
-impl OpenId<'_> {
-    // The tables of the layers lie at these paths.
-    fn explain<W: Write + Drop>(
-        &self,
-        alloc: Global,
-        asked: &Explain<'_>,
-        paths: &[String],
-        out: &mut W,
-    ) -> Result<Status, ToolFault>
-        ensures { Prints W.contents out.old out.new result (Ok (explain_printed asked.now (map string_bytes paths.now) (id_seen self.now))) }
-    {
-        if asked.android {
-            self.opened
-                .explain_in_notation(alloc, paths, asked.all, self.id, out)
+        answered(if self.android {
+            let paths = files.layers.paths();
+            asked
+                .opened
+                .explain_in_notation(alloc, paths, self.all, asked.id, out)
         } else {
-            self.opened.explain(alloc, self.id, asked.names, out)
-        }
+            asked.opened.explain(alloc, asked.id, self.names, out)
+        })
     }
 }
 

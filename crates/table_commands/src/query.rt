@@ -16,7 +16,7 @@ ghost use Rattle.command_base.specs.StackBytesSeen.{layer_bytes};
 ghost use Rattle.command_base.specs.Stop.{GivesOrStops};
 ghost use Rattle.command_base.specs.declared.fault.ToolFault.TheVariants.{Write};
 ghost use Rattle.table_commands.specs.OpenedSeen.{opened_of};
-ghost use Rattle.table_commands.specs.QueryOutput.{end_for, is_unresolved_for, line_of, query_status, query_text, query_answer, query_notation, query_printed, query_output, query_seen, query_opened, Queries, QueriesFiles};
+ghost use Rattle.table_commands.specs.QueryOutput.{end_for, is_unresolved_for, line_of, query_status, query_text, query_answer, query_notation, query_output, query_seen, query_opened, Queries, QueriesFiles};
 ghost use Rattle.command_base.specs.CarriesOut.{IsKept};
 
 use crate::answered::answered;
@@ -80,7 +80,14 @@ impl<'a> Query<'a> {
             self.locales,
             &files.words,
         )?;
-        answered(asked.print(alloc, self.android, self.names, files.layers.paths(), out))
+        answered(if self.android {
+            let paths = files.layers.paths();
+            asked
+                .opened
+                .query_in_notation(alloc, paths, &asked.ids, out)
+        } else {
+            asked.opened.query(alloc, &asked.ids, self.names, out)
+        })
     }
 }
 
@@ -108,24 +115,6 @@ impl<'a> OpenQuery<'a> {
         let opened = Opened::read_by(alloc, files, device, rule)?;
         let ids = ids_named(alloc, &opened.stack, &sets)?;
         Ok(OpenQuery { opened, ids })
-    }
-
-    // The tables of the layers lie at these paths.
-    fn print<W: Write + Drop>(
-        &self,
-        alloc: Global,
-        android: bool,
-        names: bool,
-        paths: &[String],
-        out: &mut W,
-    ) -> Result<Status, ToolFault>
-        ensures { Prints W.contents out.old out.new result (Ok (query_printed android names (map string_bytes paths.now) (query_seen self.now))) }
-    {
-        if android {
-            self.opened.query_in_notation(alloc, paths, &self.ids, out)
-        } else {
-            self.opened.query(alloc, &self.ids, names, out)
-        }
     }
 }
 

@@ -9,21 +9,30 @@ use Rattle.table_commands.specs.BagOutput.{bag_printed}
 use Rattle.table_commands.specs.Opened.{OpenIdOf}
 use Rattle.table_commands.specs.OpenedSeen.{id_seen}
 use Rattle.table_commands.proofs.Answering.{carried_out, kept_by_done}
+use Rattle.table_commands.proofs.bag.Bag.answer_of.Given.{Over}
 use Rattle.table_commands.proofs.bag.Bag.answer_of.Goals as goal
+use Rattle.table_commands.proofs.bag.Bag.answer_of.Goals.{then-self, else-self}
+
+-- either form of the answer
+printed : (g : Over) (c : goal.After-drop-asked g) → Prints g.W.Write.contents c.args.out.now c.if-self.out c.if-self.answered
+    (Ok (bag_printed c.args.self.now (paths_read (Ok (device_held c.args.files.now))) (id_seen c.in_ok-asked.asked)))
+printed g c =
+    elim c.if-self.branch [
+      | then-self w ↦ rw (w.out-is, w.answered-is, w.if-self.true) (rw w.paths-paths.ensures at w.bag_in_notation.ensures)
+      | else-self w ↦ rw (w.out-is, w.answered-is, w.if-self.false) w.bag.ensures
+    ]
 
 pub returns-clause-answers : goal.returns-clause-answers
 returns-clause-answers g c =
     let bag = c.args.self.now in
     let paths : List (List ℕ) = paths_read (Ok (device_held c.args.files.now)) in
-    let meant = c.in_ok-asked.ensures in
-    let printed = rw c.paths.ensures at c.bag.ensures in
     carried_out
-    (λ (asked : OpenIdOf) (done : Result Status ToolFault). Prints g.W.Write.contents c.args.out.now c.bag.new.out done (Ok (bag_printed bag paths asked)))
-    _ (id_seen c.in_ok-asked.asked) c.bag.result c.answered.result meant printed c.answered.ensures
+    (λ (asked : OpenIdOf) (done : Result Status ToolFault). Prints g.W.Write.contents c.args.out.now c.if-self.out done (Ok (bag_printed bag paths asked)))
+    _ (id_seen c.in_ok-asked.asked) c.if-self.answered c.answered.result c.in_ok-asked.ensures (printed g c) c.answered.ensures
 
 pub returns-clause-unwritten : goal.returns-clause-unwritten
 returns-clause-unwritten g c =
-    kept_by_done g.W.Write.contents c.args.out.now c.bag.new.out _ c.bag.result c.answered.result c.bag.ensures c.answered.ensures
+    kept_by_done g.W.Write.contents c.args.out.now c.if-self.out _ c.if-self.answered c.answered.result (printed g c) c.answered.ensures
 
 pub returns-in_err-asked-clause-answers : goal.returns-in_err-asked-clause-answers
 returns-in_err-asked-clause-answers g c =

@@ -9,21 +9,30 @@ use Rattle.table_commands.specs.ExplainOutput.{explain_printed}
 use Rattle.table_commands.specs.Opened.{OpenIdOf}
 use Rattle.table_commands.specs.OpenedSeen.{id_seen}
 use Rattle.table_commands.proofs.Answering.{carried_out, kept_by_done}
+use Rattle.table_commands.proofs.explain.Explain.answer_of.Given.{Over}
 use Rattle.table_commands.proofs.explain.Explain.answer_of.Goals as goal
+use Rattle.table_commands.proofs.explain.Explain.answer_of.Goals.{then-self, else-self}
+
+-- either form of the answer
+printed : (g : Over) (c : goal.After-drop-asked g) → Prints g.W.Write.contents c.args.out.now c.if-self.out c.if-self.answered
+    (Ok (explain_printed c.args.self.now (paths_read (Ok (device_held c.args.files.now))) (id_seen c.in_ok-asked.asked)))
+printed g c =
+    elim c.if-self.branch [
+      | then-self w ↦ rw (w.out-is, w.answered-is, w.if-self.true) (rw w.paths-paths.ensures at w.explain_in_notation.ensures)
+      | else-self w ↦ rw (w.out-is, w.answered-is, w.if-self.false) w.explain.ensures
+    ]
 
 pub returns-clause-answers : goal.returns-clause-answers
 returns-clause-answers g c =
     let explain = c.args.self.now in
     let paths : List (List ℕ) = paths_read (Ok (device_held c.args.files.now)) in
-    let meant = c.in_ok-asked.ensures in
-    let printed = rw c.paths.ensures at c.explain.ensures in
     carried_out
-    (λ (asked : OpenIdOf) (done : Result Status ToolFault). Prints g.W.Write.contents c.args.out.now c.explain.new.out done (Ok (explain_printed explain paths asked)))
-    _ (id_seen c.in_ok-asked.asked) c.explain.result c.answered.result meant printed c.answered.ensures
+    (λ (asked : OpenIdOf) (done : Result Status ToolFault). Prints g.W.Write.contents c.args.out.now c.if-self.out done (Ok (explain_printed explain paths asked)))
+    _ (id_seen c.in_ok-asked.asked) c.if-self.answered c.answered.result c.in_ok-asked.ensures (printed g c) c.answered.ensures
 
 pub returns-clause-unwritten : goal.returns-clause-unwritten
 returns-clause-unwritten g c =
-    kept_by_done g.W.Write.contents c.args.out.now c.explain.new.out _ c.explain.result c.answered.result c.explain.ensures c.answered.ensures
+    kept_by_done g.W.Write.contents c.args.out.now c.if-self.out _ c.if-self.answered c.answered.result (printed g c) c.answered.ensures
 
 pub returns-in_err-asked-clause-answers : goal.returns-in_err-asked-clause-answers
 returns-in_err-asked-clause-answers g c =
