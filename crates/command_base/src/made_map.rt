@@ -47,10 +47,10 @@ impl MadeMap {
         target: &Table<'_>,
         overlay: &Table<'_>,
     ) -> Result<MadeMap, AllocError>
-        ensures json { IfOk result (λ made. made.json.items ≡ map_text (made_map target.now overlay.now)) }
-        ensures left { IfOk result (λ made. made.left.items ≡ lines_with before.now overlay.now (made_map target.now overlay.now)) }
-        ensures whole { IfOk result (λ made. made.is_whole ≡ is_whole overlay.now (made_map target.now overlay.now)) }
-        ensures reads_back { IfOk result (λ _. ReadsBack (made_map target.now overlay.now)) }
+        ensures { IfOk result (λ made. (made.json.items ≡ map_text (made_map target.now overlay.now))
+            × (made.left.items ≡ lines_with before.now overlay.now (made_map target.now overlay.now))
+            × (made.is_whole ≡ is_whole overlay.now (made_map target.now overlay.now))
+            × ReadsBack (made_map target.now overlay.now)) }
     {
         let pairs = made_pairs(alloc, target, overlay)?;
         let json = json_text(alloc, &pairs)?;

@@ -13,7 +13,7 @@ returns c =
     let overlay = c.in_ok-overlay.overlay in
     let marked = ap (λ (mark : List ℕ). lines_with mark overlay (made_map target overlay)) (c.deref.ensures.value ∙ c.in_ok-mark.ensures) in
     left-of_tables c.args.side c.args.base c.args.target.now c.args.place c.args.overlay.now _ _ c.in_ok-target.ensures.value c.in_ok-overlay.ensures.value
-    ∙ ap given (sym (c.in_ok-made.ensures.left ∙ marked))
+    ∙ ap given (sym (c.in_ok-made.ensures.1 ∙ marked))
 
 pub returns-in_err-overlay : goal.returns-in_err-overlay
 returns-in_err-overlay c =
