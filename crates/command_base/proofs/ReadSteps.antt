@@ -1,5 +1,5 @@
 -- What is meant where something of what is read in turn stops, or is read.
-use Rattle.std.proofs.Common.{◌≡◌, ℕ, Bool, false, List, length, map, Option, Some, Result, Ok, Err, sym, ap, ◌∙◌}
+use Rattle.std.proofs.Common.{◌≡◌, ℕ, Bool, false, List, length, map, Option, Some, None, Result, Ok, Err, sym, ap, ◌∙◌}
 use Rattle.std.specs.List.{enumerate_from}
 use Rattle.std.specs.Prelude.{if◌then◌else◌}
 use Rattle.apk_member.specs.declared.fault.ApkFault.{ApkFault}
@@ -87,6 +87,12 @@ unfolding named_layer
 of-named_table places before layer place path table at names is =
     ap (named_with before layer)
     (sym (ap (λ (place : ℕ). listed_table_of place places path) at ∙ ap (λ (path : List ℕ). listed_table_of (length before) places path) names) ∙ is)
+
+pub of-named_base : (places : Places) (before : List LayerBytes) (layer : ListedLayer) (place : ℕ) (path table : List ℕ)
+    → place ≡ length before → path ≡ layer.path → listed_table_of place places path ≡ Ok table → layer.base ≡ None → named_layer places before layer ≡ held table None
+of-named_base places before layer place path table at names is alone =
+    of-named_table places before layer place path (Ok table) at names is
+    ∙ ap (λ (base : Option ℕ). with_map table (where_overlay (λ base. made_json base (table_at_place before base) (length before) table) base)) alone
 
 abbrev as_stop : Result (List ℕ) ToolFault → Result (List ℕ) StopOf
 as_stop made = or_stop (λ fault. tool fault) made

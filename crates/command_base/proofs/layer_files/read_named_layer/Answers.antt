@@ -7,7 +7,7 @@ use Rattle.command_base.specs.Inputs.{made_json}
 use Rattle.command_base.specs.ListWordSeen.{listed_of}
 use Rattle.command_base.specs.Stop.{tool}
 use Rattle.command_base.specs.declared.fault.ToolFault.{ToolFault}
-use Rattle.command_base.proofs.ReadSteps.{of-named_map, of-named_table}
+use Rattle.command_base.proofs.ReadSteps.{of-named_base, of-named_map, of-named_table}
 use Rattle.command_base.proofs.layer_files.read_named_layer.Goals as goal
 
 pub returns-in_err-table : goal.returns-in_err-table
@@ -38,3 +38,9 @@ returns-in_ok-made_json-in-Some g c =
     (λ places table.
     of-named_map places (map layer_held before) (listed_of c.args.layer) (length before) c.in-Some.base _ _ _ _ (sym (length-map before layer_held)) c.in_ok-path.ensures.ok table
     c.in-Some.is c.table_at_place-target.ensures (ap made (sym c.table-in-Some.ensures) ∙ c.in_ok-made_json-in-Some.ensures))
+
+pub returns-in-None : goal.returns-in-None
+returns-in-None g c =
+    let before = c.args.before.now in
+    IfSome_then (g.I.Inputs.places c.args.inputs.now) c.in_ok-table.ensures
+    (λ places table. of-named_base places (map layer_held before) (listed_of c.args.layer) (length before) _ _ (sym (length-map before layer_held)) c.in_ok-path.ensures.ok table c.in-None.is)
