@@ -83,8 +83,20 @@ pub(crate) fn hint_of_value(alloc: Global, coord: Coord, value: &Value) -> Optio
 }
 
 fn hint_of_word(alloc: Global, coord: Coord, word: &str) -> Option<String> {
+    // A word of resource folders.
     if let Some(number) = number_of_word(alloc, coord, word) {
-        return hint_of_meant(alloc, word, u64::from(number), coord.name());
+        return text_with(
+            alloc,
+            &[
+                Text("\""),
+                Text(word),
+                Text("\" is "),
+                Number(u64::from(number)),
+                Text(" at \""),
+                Text(name_of(coord)),
+                Text("\""),
+            ],
+        );
     }
     match word.parse::<u32>() {
         Ok(number) => hint_of_quotes(alloc, coord, u64::from(number)),
@@ -93,22 +105,6 @@ fn hint_of_word(alloc: Global, coord: Coord, word: &str) -> Option<String> {
             hint_at_name(alloc, coord.name(), takes, meaning(coord))
         }
     }
-}
-
-// A word of resource folders.
-fn hint_of_meant<'t>(alloc: Global, word: &'t str, number: u64, name: &'t str) -> Option<String> {
-    text_with(
-        alloc,
-        &[
-            Text("\""),
-            Text(word),
-            Text("\" is "),
-            Number(number),
-            Text(" at \""),
-            Text(name),
-            Text("\""),
-        ],
-    )
 }
 
 fn hint_of_quotes(alloc: Global, coord: Coord, number: u64) -> Option<String> {

@@ -205,15 +205,12 @@ fn hint_of_entry(alloc: Global, printed: &[u8], word: &str) -> Option<String> {
 
 fn offer_entries<'n>(alloc: Global, text: &'n str, nearest: &mut Nearest<'_, 'n>) {
     for line in text.lines() {
-        if let Some((_id, name)) = named_in(line) {
-            offer_entry(alloc, name, nearest);
+        let Some((_id, name)) = named_in(line) else {
+            continue;
+        };
+        if let Some((_type_name, entry_name)) = name.split_once('/') {
+            nearest.offer(alloc, entry_name, name);
         }
-    }
-}
-
-fn offer_entry<'n>(alloc: Global, name: &'n str, nearest: &mut Nearest<'_, 'n>) {
-    if let Some((_type_name, entry_name)) = name.split_once('/') {
-        nearest.offer(alloc, entry_name, name);
     }
 }
 

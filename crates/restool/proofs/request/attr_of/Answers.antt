@@ -1,4 +1,4 @@
-use Rattle.std.proofs.Common.{◌≡◌, ℕ, Bool, true, false, not, List, Result, Ok, Err, codes, refl, ap}
+use Rattle.std.proofs.Common.{◌≡◌, ℕ, Bool, true, false, not, List, Ok, Err, codes, refl, ap}
 use Rattle.std.proofs.lemmas.Result.{err_from_is_err_and}
 use Rattle.clap.specs.Walk.{Row}
 use Rattle.clap.specs.Words.{found_of, rows_of}
@@ -10,7 +10,7 @@ use Rattle.restool.specs.declared.argument_fault.ArgumentFault.TheVariants as fa
 use Rattle.restool.specs.declared.request.Request.{Request}
 use Rattle.restool.specs.AskedWords.{ReadsWords, named_word}
 use Rattle.restool.specs.Given.{IsGiven, ReadsAlong, ReadsByRule, word_at}
-use Rattle.restool.specs.Request.{AttrAsked, attr_asked, locales_at, resources_at}
+use Rattle.restool.specs.Request.{attr_asked, locales_at, resources_at}
 use Rattle.restool.proofs.request.attr_of.Goals as goal
 
 -- the attribute is there, and so are the styles

@@ -1,4 +1,4 @@
-use Rattle.std.proofs.Common.{◌≡◌, List, Option, Some, None, Ok, refl, sym, ◌∙◌, subst, map, string_bytes}
+use Rattle.std.proofs.Common.{◌≡◌, Option, Some, None, Ok, refl, sym, ◌∙◌, subst}
 use Rattle.std.specs.Option.{option_map, IsSomeAnd}
 use Rattle.clap.specs.Words.{found_of, rows_of}
 use Rattle.restool.specs.declared.request.Command.{Command}
