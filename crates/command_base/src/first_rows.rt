@@ -61,9 +61,9 @@ fn first_rows<'a>(alloc: Global, table: &Table<'a>) -> Result<BTreeMap<u32, Row<
 // Puts a row where there is none of its id.
 fn keep_first<'a>(row: Row<'a>, rows: &mut BTreeMap<u32, Row<'a>>) -> Result<(), AllocError>
     requires { IsOrdered nat_cmp rows.old }
-    ensures ids { OnOk result (keys rows.new ≡ insert_key nat_cmp (keys rows.old) row.entry.id.0) }
-    ensures kept { OnOk result ((id : ℕ) → row_at rows.new id ≡ option_or (row_at rows.old id) (row_for (row_of row.entry) id)) }
-    ensures ordered { OnOk result (IsOrdered nat_cmp rows.new) }
+    ensures { OnOk result ((keys rows.new ≡ insert_key nat_cmp (keys rows.old) row.entry.id.0)
+        × ((id : ℕ) → row_at rows.new id ≡ option_or (row_at rows.old id) (row_for (row_of row.entry) id))
+        × IsOrdered nat_cmp rows.new) }
 {
     if !rows.contains_key(&row.id.0) {
         rows.insert(row.id.0, row)?;
