@@ -59,21 +59,8 @@ pub JoinsAllBut-end : {A B : Type 0} (f : A → List B) (made total : List B) (l
 JoinsAllBut-end {A} f made total left before nothing =
     sym (append-nil made) ∙ ap (λ (t : List A). made ++ flat_map f t) (sym nothing) ∙ before.others
 
--- ---- where each item gives one
+-- ---- where each item gives one, and is seen by a view
 
-pub each_made-next : {X Y Z : Type 0} (f : X → Z) (g : Y → Z) (made new : List X) (all : List Y) (i : ℕ) (item : X) (d : Y)
-    → map f made ≡ map g (take i all) → i < length all → f item ≡ g (get_or all i d) → new ≡ made ++ item ∷ [] → map f new ≡ map g (take (i + 1) all)
-each_made-next {X} {Y} f g made new all i item d before on is pushed =
-    ap (λ (t : List X). map f t) pushed
-    ∙ map-append f made (item ∷ [])
-    ∙ (λ k. before k ++ is k ∷ [])
-    ∙ sym (map-append g (take i all) (get_or all i d ∷ []))
-    ∙ ap (λ (t : List Y). map g t) (sym (take_more all i d on))
-
-pub each_made-end : {X Y Z : Type 0} (f : X → Z) (g : Y → Z) (made : List X) (all : List Y) (i : ℕ) → map f made ≡ map g (take i all) → length all ≤ i → map f made ≡ map g all
-each_made-end {X} {Y} f g made all i before past = before ∙ ap (λ (t : List Y). map g t) (take_all i all past)
-
--- the same of items that are seen by a view
 pub each_seen-next : {X Y V Z : Type 0} (f : X → Z) (view : Y → V) (g : V → Z) (made new : List X) (all : List Y) (i : ℕ) (item : X) (d : Y)
     → map f made ≡ map g (map view (take i all)) → i < length all → f item ≡ g (view (get_or all i d)) → new ≡ made ++ item ∷ []
     → map f new ≡ map g (map view (take (i + 1) all))
