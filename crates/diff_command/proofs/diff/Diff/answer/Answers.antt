@@ -4,6 +4,7 @@ use Rattle.command_base.specs.Output.{PrintsOneOf}
 use Rattle.command_base.proofs.CarriedOut.{read_stops, read_then}
 use Rattle.diff_command.specs.Diff.{DiffsFiles, OpenDiffOf, diff_files, diff_held, diff_opened}
 use Rattle.diff_command.specs.DiffOutput.{IsDiffOutput}
+use Rattle.diff_command.proofs.Stopped.{kept-still}
 use Rattle.diff_command.proofs.diff.Diff.answer.Goals as goal
 
 pub returns-in_err-files-clause-answers : goal.returns-in_err-files-clause-answers
@@ -26,3 +27,9 @@ returns-clause-answers g c =
     (g.I.Inputs.places c.args.inputs.now) (λ places. diff_files places diff.old.now diff.new.now diff.box_path.now (map (λ word. word.now) c.deref.result.now))
     (diff_held c.in_ok-files.files) c.in_ok-files.ensures c.answer_of.ensures.answers
     )
+
+pub returns-in_err-files-clause-unwritten : goal.returns-in_err-files-clause-unwritten
+returns-in_err-files-clause-unwritten g c = kept-still c.args.out.now c.from_residual.result
+
+pub returns-clause-unwritten : goal.returns-clause-unwritten
+returns-clause-unwritten g c = c.answer_of.ensures.unwritten

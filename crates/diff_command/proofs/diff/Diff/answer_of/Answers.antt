@@ -47,3 +47,8 @@ returns-clause-answers g c =
 
 pub returns-clause-unwritten : goal.returns-clause-unwritten
 returns-clause-unwritten g c = c.diff_asked.ensures.unwritten
+
+pub returns-in_err-named-clause-answers : goal.returns-in_err-named-clause-answers
+returns-in_err-named-clause-answers g c =
+    let p = err_from_is_err_and c.from_residual-in_err-named.result c.from_residual-in_err-named.ensures.1 in
+    rw (p.1, p.2) (λ told. absurd (told refl))

@@ -4,6 +4,7 @@ use Rattle.command_base.specs.Output.{PrintsOneOf}
 use Rattle.command_base.proofs.CarriedOut.{read_stops, read_then}
 use Rattle.diff_command.specs.Unused.{IsUnusedOutput, OpenUnusedOf, TellsUnusedOf, unused_opened}
 use Rattle.diff_command.specs.Values.{values_files, values_held}
+use Rattle.diff_command.proofs.Stopped.{kept-still}
 use Rattle.diff_command.proofs.unused.Unused.answer.Goals as goal
 
 pub returns-in_err-files-clause-answers : goal.returns-in_err-files-clause-answers
@@ -26,3 +27,9 @@ returns-clause-answers g c =
     (g.I.Inputs.places c.args.inputs.now) (λ places. values_files places unused.layers.now unused.box_path.now (map (λ word. word.now) c.deref.result.now))
     (values_held c.in_ok-files.files) c.in_ok-files.ensures c.answer_of.ensures.answers
     )
+
+pub returns-in_err-files-clause-unwritten : goal.returns-in_err-files-clause-unwritten
+returns-in_err-files-clause-unwritten g c = kept-still c.args.out.now c.from_residual.result
+
+pub returns-clause-unwritten : goal.returns-clause-unwritten
+returns-clause-unwritten g c = c.answer_of.ensures.unwritten

@@ -7,6 +7,7 @@ use Rattle.diff_command.specs.AskedPairs.{asked_of}
 use Rattle.diff_command.specs.Diff.{opened_asked}
 use Rattle.diff_command.specs.Values.{opened_values, values_held, values_inputs_by}
 use Rattle.diff_command.proofs.Asked.{opened-with}
+use Rattle.diff_command.proofs.Stopped.{kept-still}
 use Rattle.diff_command.proofs.values.Values.answer_of.Goals as goal
 
 pub returns-in_err-opened-clause-answers : goal.returns-in_err-opened-clause-answers
@@ -25,3 +26,19 @@ returns-clause-answers g c =
     let meant : opened_asked held.words read ≡ asked_of opened (map named_set_of c.deref-2.result.now) =
     opened-with held.words (sets_held c.in_ok-sets.sets) read opened words c.in_ok-opened.ensures.value ∙ ap (λ sets. asked_of opened (map named_set_of sets)) (sym c.deref-2.ensures.value) in
     rw meant c.values_asked.ensures.answers
+
+pub returns-in_err-sets-clause-answers : goal.returns-in_err-sets-clause-answers
+unfolding opened_asked
+returns-in_err-sets-clause-answers g c =
+    let p = err_from_is_err_and c.from_residual.result c.from_residual.ensures.1 in
+    rw (p.1, p.2) (λ told.
+    let stopped = rw c.deref.ensures.value at (c.in_err-sets.ensures told) in inl (rw stopped refl))
+
+pub returns-in_err-sets-clause-unwritten : goal.returns-in_err-sets-clause-unwritten
+returns-in_err-sets-clause-unwritten g c = kept-still c.args.out.now c.from_residual.result
+
+pub returns-in_err-opened-clause-unwritten : goal.returns-in_err-opened-clause-unwritten
+returns-in_err-opened-clause-unwritten g c = kept-still c.args.out.now c.from_residual-in_err-opened.result
+
+pub returns-clause-unwritten : goal.returns-clause-unwritten
+returns-clause-unwritten g c = c.values_asked.ensures.unwritten
