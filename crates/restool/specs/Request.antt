@@ -1,9 +1,9 @@
 -- The requests that the program knows: what each is called and what it takes, what its words ask for, and what it is answered.
-use Rattle.std.specs.Prelude.{◌≡◌, ◌||◌, ℕ, Bool, true, false, not, fold, List, [], ◌∷◌, codes, Option, Some, None, option_map, Result, Ok, Err, IsOkAnd, IsSomeAnd, if◌then◌else◌}
+use Rattle.std.specs.Prelude.{◌≡◌, ◌||◌, ℕ, Bool, true, false, not, List, [], ◌∷◌, codes, Option, Some, None, option_map, Result, Ok, Err, IsOkAnd, IsSomeAnd, if◌then◌else◌}
 use Rattle.std.specs.Str.{bytes_eq}
 use Rattle.clap.specs.Kinds.{IsAmong}
 use Rattle.clap.specs.Faults.{fault_of}
-use Rattle.clap.specs.Simple.{App, Shape, new_shape, subcommand_of, with_subcommand}
+use Rattle.clap.specs.Simple.{App, Shape, new_shape, subcommand_of}
 use Rattle.clap.specs.Values.{kind_of}
 use Rattle.clap.specs.Walk.{Row, first_of, one_of}
 use Rattle.contract_words.specs.Faults.{◌>>=◌}
@@ -81,10 +81,6 @@ commands =
 -- the program by itself, which has a version, and has to be given a command
 unfoldable pub program_alone : App
 program_alone = record { top = record (new_shape (codes "restool")) { has_version = true; subcommand_required = true }; subs = [] }
-
--- a program with these commands too
-unfoldable pub with_all : App → App
-with_all app = fold with_subcommand app commands
 
 -- the program with its commands
 unfoldable pub command_line : App

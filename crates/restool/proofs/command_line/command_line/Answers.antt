@@ -1,8 +1,13 @@
 use Rattle.std.proofs.Common.{◌≡◌, ◌∙◌, refl, IfOk, ap, subst}
-use Rattle.clap.specs.Simple.{App}
+use Rattle.std.specs.Prelude.{fold}
+use Rattle.clap.specs.Simple.{App, with_subcommand}
 use Rattle.clap.specs.Words.{app_of}
-use Rattle.restool.specs.Request.{command_line, program_alone, with_all}
+use Rattle.restool.specs.Request.{command_line, commands, program_alone}
 use Rattle.restool.proofs.command_line.command_line.Goals as goal
+
+-- a program with these commands too
+unfoldable with_all : App → App
+with_all app = fold with_subcommand app commands
 
 whole : with_all program_alone ≡ command_line
 unfolding with_all program_alone command_line
