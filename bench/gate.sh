@@ -3,21 +3,24 @@
 # the sums, as a table: gate.sh [CRATE..]. Without a crate it measures all, and takes as long as the gate, but for the runs
 # of the built program. Each part works from nothing, with one job, on a copy of the repository, and each proof is as the
 # gate makes it (tools/prove.py --as-ci); those below a named crate are proved too. Where the crates of the fixed proof
-# (README.md) are among them, the sum is printed as a multiple of that too. They are proved twice, once before the others and
-# once among the tests and edits, since what runs side by side takes longer: the mean of both is one fixed proof.
+# (README.md) are among them, the sum is printed as a multiple of that too. They are proved five times, once before the others
+# and four times among the tests and edits, since no single one is steady and what runs side by side takes longer: the mean of
+# the five is one fixed proof.
 # The environment may give JOBS, how many tests and edits run side by side; and COPY, a copy of the repository: what
 # tools/prove.py --as-ci proved there is not proved again, and what is proved stays there.
 here=$(CDPATH='' cd "$(dirname "$0")/.." && pwd) || exit 1
 program=$(basename "$0")
 fixed="contract_words chunk_walk json_input apk_member config_record"
+# The parts in which they are proved again.
+again="again1 again2 again3 again4"
 . "$here/tools/crates_below.sh"
 
-# measure WORK CRATE PART COMMAND..: runs a command in the crate's folder of its room, and keeps the processor seconds, of
+# measure WORK CRATE PART COMMAND..: runs a command in the crate's folder of the part's room, and keeps the processor seconds, of
 # user and system, that it and its children took. What it printed is shown where it failed.
 measure() {
     seconds=$1/seconds/$2.$3 printed=$1/printed/$2.$3
     (
-        cd "$1/rooms/$2/crates/$2" || exit 1
+        cd "$1/rooms/$2.$3/crates/$2" || exit 1
         shift 3
         "$@" >"$printed" 2>&1 </dev/null
         ended=$?
@@ -34,35 +37,59 @@ measure() {
     echo "$2 $3: $(cat "$seconds") s" >&2
 }
 
-# make_room WORK CRATE: a copy for the tests and edits of a crate, since rt lets no two runs into one folder. It has the
-# libraries, and nothing that the crate's own proof left, so that the tests are proved from nothing, as the gate does it.
+# make_room WORK CRATE PART: a copy for a part of a crate, since rt lets no two runs into one folder. It has the libraries, and
+# nothing that the crate's own proof left, so that the tests are proved from nothing, as the gate does it.
 make_room() {
-    mkdir -p "$1/rooms/$2/crates" || return 1
+    room=$1/rooms/$2.$3
+    mkdir -p "$room/crates" || return 1
     for below in $(crates_below "$copy/crates.txt" "$2"); do
-        mkdir -p "$1/rooms/$2/crates/$below/out" || return 1
-        grep "^$below:" "$copy/crates.txt" >>"$1/rooms/$2/crates.txt" || return 1
-        for part in src specs proofs must-fail stdin stdout args status data out/rlib; do
-            if [ -e "$copy/crates/$below/$part" ]; then
-                cp -al "$copy/crates/$below/$part" "$1/rooms/$2/crates/$below/$part" || return 1
+        mkdir -p "$room/crates/$below/out" || return 1
+        grep "^$below:" "$copy/crates.txt" >>"$room/crates.txt" || return 1
+        for folder in src specs proofs must-fail stdin stdout args status data out/rlib; do
+            if [ -e "$copy/crates/$below/$folder" ]; then
+                cp -al "$copy/crates/$below/$folder" "$room/crates/$below/$folder" || return 1
             fi
         done
     done
 }
 
-# measure_rest WORK CRATE: the tests and edits of a crate that is proved, and its proof again if it is one of the fixed proof.
+# measure_rest WORK PART CRATE: a part of a crate that is proved: its tests, its edits, or its proof again.
 measure_rest() {
-    folder=$copy/crates/$2
-    make_room "$1" "$2" || return 1
-    case " $fixed " in *" $2 "*) measure "$1" "$2" again python3 "$copy/tools/rt_once.py" as-ci ;; esac
-    if grep -rq '^ *#\[test\]' "$folder/src"; then measure "$1" "$2" tests rt test --jobs 1; fi
-    if [ -d "$folder/must-fail" ]; then measure "$1" "$2" edits sh -c "cd ../.. && rt must-fail $2"; fi
-    rm -rf "$1/rooms/$2"
+    make_room "$1" "$3" "$2" || return 1
+    case $2 in
+    tests) measure "$1" "$3" tests rt test --jobs 1 ;;
+    edits) measure "$1" "$3" edits sh -c "cd ../.. && rt must-fail $3" ;;
+    *) measure "$1" "$3" "$2" python3 "$copy/tools/rt_once.py" as-ci ;;
+    esac
+    rm -rf "$1/rooms/$3.$2"
 }
 if [ "$1" = --rest ]; then
     copy=$COPY
-    measure_rest "$2" "$3"
+    measure_rest "$2" "$3" "$4"
     exit 0
 fi
+
+# rest: a line for each part that is measured behind the proofs: what it is, and of which crate. The fixed proofs stand between.
+rest() {
+    left=$again
+    for crate in $named; do
+        folder=$copy/crates/$crate
+        if grep -rq '^ *#\[test\]' "$folder/src"; then echo "tests $crate"; fi
+        if [ -d "$folder/must-fail" ]; then
+            echo "edits $crate"
+            fixed_again "${left%% *}"
+            case $left in *" "*) left=${left#* } ;; *) left= ;; esac
+        fi
+    done
+    for part in $left; do fixed_again "$part"; done
+}
+
+# fixed_again PART: the lines of one fixed proof, of the crates that are there.
+fixed_again() {
+    for crate in ${1:+$fixed}; do
+        case " $(echo $needed) " in *" $crate "*) echo "$1 $crate" ;; esac
+    done
+}
 
 listed=$(all_crates "$here/crates.txt")
 for crate in "$@"; do
@@ -91,11 +118,11 @@ free=$(awk '/^MemAvailable:/ { print int($2 / 4000000) }' /proc/meminfo 2>/dev/n
 jobs=$(getconf _NPROCESSORS_ONLN)
 if [ "${free:-1}" -lt "$jobs" ]; then jobs=${free:-1}; fi
 if [ "$jobs" -lt 1 ]; then jobs=1; fi
-[ -e "$work/failed" ] || echo "$named" | tr ' ' '\n' | COPY=$copy xargs -r -P "${JOBS:-$jobs}" -n 1 sh "$0" --rest "$work"
+[ -e "$work/failed" ] || rest | COPY=$copy xargs -r -P "${JOBS:-$jobs}" -n 2 sh "$0" --rest "$work"
 
 {
     for crate in $fixed; do
-        for part in proof again; do
+        for part in proof $again; do
             echo "fixed $(cat "$work/seconds/$crate.$part" 2>/dev/null || echo none)"
         done
     done
@@ -105,7 +132,7 @@ if [ "$jobs" -lt 1 ]; then jobs=1; fi
         done
     done
 } | awk '
-    $1 == "fixed" { fixed += $2 / 2; if ($2 == "none") unmeasured = 1; next }
+    $1 == "fixed" { fixed += $2 / 5; if ($2 == "none") unmeasured = 1; next }
     { took[$1, $2] = $3; all[$1] += $3; sum[$2] += $3; total += $3; if (!($1 in seen)) { seen[$1] = 1; names[++count] = $1 } }
     function cell(seconds) { return seconds ? sprintf("%.0f", seconds) : "" }
     function row(name, proof, tests, edits, seconds) {
