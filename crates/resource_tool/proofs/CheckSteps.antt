@@ -2,11 +2,11 @@
 use Rattle.std.proofs.Common.{◌≡◌, ℕ, Bool, true, false, List, [], ◌∷◌, Option, Some, None, Ok, refl, subst, sym, ◌∙◌}
 use Rattle.std.specs.List.{flat_map}
 use Rattle.std.specs.Io.KnownBytes.{Appends}
-use Rattle.table_commands.specs.overlay_map.Layer.{LayerOf}
+use Rattle.command_base.specs.overlay_map.Layer.{LayerOf}
 use Rattle.resource_text.specs.cert_maker.res_value.Goal.{GoalSeen}
-use Rattle.table_commands.specs.command_base.declared.status.Status.{Status}
-use Rattle.table_commands.specs.command_base.Output.{PrintsOneOf}
-use Rattle.table_commands.specs.command_base.StackBytes.{LayerBytes}
+use Rattle.command_base.specs.declared.status.Status.{Status}
+use Rattle.command_base.specs.Output.{PrintsOneOf}
+use Rattle.command_base.specs.StackBytes.{LayerBytes}
 use Rattle.resource_text.specs.cert_maker.cert_checker.declared.verdict.Verdict.{Verdict}
 use Rattle.resource_text.specs.declared.rejection.Rejection.{Rejection}
 use Rattle.resource_text.specs.cert_maker.cert_checker.Verdict.{IsVerdict}

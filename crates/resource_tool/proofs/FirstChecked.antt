@@ -4,18 +4,18 @@ use Rattle.std.proofs.Common.{◌≡◌, ℕ, ◌+◌, ◌<◌, ◌≤◌, inl, 
 use Rattle.std.proofs.lemmas.Bool.{cases_lt}
 use Rattle.std.proofs.lemmas.List.{take_all, length-map}
 use Rattle.std.proofs.lemmas.Option.{slice_get_past}
-use Rattle.table_commands.specs.command_base.declared.fault.ToolFault.{ToolFault}
-use Rattle.table_commands.specs.command_base.declared.status.Status.{Status}
-use Rattle.table_commands.specs.command_base.declared.stop.Stop.{Stop}
-use Rattle.table_commands.specs.command_base.CarriesOut.{CarriesOut}
-use Rattle.table_commands.specs.command_base.Stop.{StopOf}
-use Rattle.table_commands.specs.command_base.Output.{Output}
+use Rattle.command_base.specs.declared.fault.ToolFault.{ToolFault}
+use Rattle.command_base.specs.declared.status.Status.{Status}
+use Rattle.command_base.specs.declared.stop.Stop.{Stop}
+use Rattle.command_base.specs.CarriesOut.{CarriesOut}
+use Rattle.command_base.specs.Stop.{StopOf}
+use Rattle.command_base.specs.Output.{Output}
 use Rattle.resource_text.specs.cert_maker.cert_tree.Certificate.{GoalOf}
 use Rattle.resource_text.specs.cert_maker.res_value.Goal.{GoalSeen}
 use Rattle.resource_text.specs.answer_notation.Naming.{NamingOf}
 use Rattle.resource_text.specs.RejectionNotation.{claim_at, rejected_notation, rejection_notation, shown_of, verdict_in}
-use Rattle.table_commands.specs.answer_text.QueryText.{set_aside_line}
-use Rattle.table_commands.specs.command_base.SetAside.{rows_set_aside}
+use Rattle.command_base.specs.answer_text.QueryText.{set_aside_line}
+use Rattle.command_base.specs.SetAside.{rows_set_aside}
 use Rattle.resource_text.specs.cert_maker.cert_checker.declared.rule.Rule.{Rule}
 use Rattle.resource_text.specs.cert_maker.cert_checker.declared.rule.Rule.TheVariants.{GoalList}
 use Rattle.resource_text.specs.cert_maker.cert_checker.declared.verdict.Shown.{Shown}

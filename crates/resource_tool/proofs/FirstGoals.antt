@@ -6,14 +6,14 @@ use Rattle.std.specs.List.{All}
 use Rattle.std.proofs.lemmas.Bool.{cases_lt}
 use Rattle.std.proofs.lemmas.List.{take_all, length-map}
 use Rattle.contract_words.specs.Faults.{◌>>=◌}
-use Rattle.table_commands.specs.overlay_map.Layer.{LayerOf}
-use Rattle.table_commands.specs.command_base.declared.fault.ToolFault.{ToolFault}
-use Rattle.table_commands.specs.command_base.declared.status.Status.{Status}
-use Rattle.table_commands.specs.command_base.declared.status.Status.TheVariants.{Done, Negative}
-use Rattle.table_commands.specs.command_base.Output.{Output}
-use Rattle.table_commands.specs.command_base.declared.stop.Stop.{Stop}
-use Rattle.table_commands.specs.command_base.CarriesOut.{CarriesOut}
-use Rattle.table_commands.specs.command_base.Stop.{StopOf}
+use Rattle.command_base.specs.overlay_map.Layer.{LayerOf}
+use Rattle.command_base.specs.declared.fault.ToolFault.{ToolFault}
+use Rattle.command_base.specs.declared.status.Status.{Status}
+use Rattle.command_base.specs.declared.status.Status.TheVariants.{Done, Negative}
+use Rattle.command_base.specs.Output.{Output}
+use Rattle.command_base.specs.declared.stop.Stop.{Stop}
+use Rattle.command_base.specs.CarriesOut.{CarriesOut}
+use Rattle.command_base.specs.Stop.{StopOf}
 use Rattle.resource_text.specs.cert_maker.box_answers.NumberSet.{SetOf}
 use Rattle.resource_text.specs.cert_maker.res_value.Goal.{GoalSeen}
 use Rattle.resource_text.specs.cert_maker.cert_tree.Certificate.{BagAt, GoalOf, NodeOf, GoalFits, goals_of, most_nodes, node_count}

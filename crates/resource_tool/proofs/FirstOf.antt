@@ -4,18 +4,18 @@ use Rattle.std.specs.Prelude.{slice_get}
 use Rattle.std.proofs.lemmas.List.{take_all}
 use Rattle.std.proofs.lemmas.Option.{slice_get_within}
 use Rattle.contract_words.specs.Faults.{◌>>=◌}
-use Rattle.table_commands.specs.overlay_map.Layer.{LayerOf}
-use Rattle.table_commands.specs.command_base.declared.fault.ToolFault.{ToolFault}
-use Rattle.table_commands.specs.command_base.declared.fault.ToolFault.TheVariants as faults
-use Rattle.table_commands.specs.command_base.names.declared.fault.NameFault.{NameFault}
-use Rattle.table_commands.specs.command_base.names.declared.fault.NameFault.TheVariants as name_faults
-use Rattle.table_commands.specs.command_base.names.NameFault.{NameFaultOf, name_fault_of}
-use Rattle.table_commands.specs.command_base.declared.status.Status.{Status}
-use Rattle.table_commands.specs.command_base.declared.stop.Stop.{Stop}
-use Rattle.table_commands.specs.command_base.CarriesOut.{CarriesOut, found_or_stop, read_or_stop, stop_of_fault}
-use Rattle.table_commands.specs.command_base.Stop.{StopOf, stop_of, stop_of_name, tool}
-use Rattle.table_commands.specs.command_base.names.NamedGoal.{NamedGoalOf}
-use Rattle.table_commands.specs.command_base.names.NamedGoals.{first_goals, goals_named}
+use Rattle.command_base.specs.overlay_map.Layer.{LayerOf}
+use Rattle.command_base.specs.declared.fault.ToolFault.{ToolFault}
+use Rattle.command_base.specs.declared.fault.ToolFault.TheVariants as faults
+use Rattle.command_base.specs.names.declared.fault.NameFault.{NameFault}
+use Rattle.command_base.specs.names.declared.fault.NameFault.TheVariants as name_faults
+use Rattle.command_base.specs.names.NameFault.{NameFaultOf, name_fault_of}
+use Rattle.command_base.specs.declared.status.Status.{Status}
+use Rattle.command_base.specs.declared.stop.Stop.{Stop}
+use Rattle.command_base.specs.CarriesOut.{CarriesOut, found_or_stop, read_or_stop, stop_of_fault}
+use Rattle.command_base.specs.Stop.{StopOf, stop_of, stop_of_name, tool}
+use Rattle.command_base.specs.names.NamedGoal.{NamedGoalOf}
+use Rattle.command_base.specs.names.NamedGoals.{first_goals, goals_named}
 use Rattle.resource_text.specs.cert_maker.res_value.Goal.{GoalSeen}
 use Rattle.resource_tool.specs.GoalTold.{goal_told, line_about, line_of}
 

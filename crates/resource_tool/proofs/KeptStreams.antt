@@ -1,13 +1,13 @@
 -- What a fault leaves of what was printed and said.
 use Rattle.std.proofs.Common.{◌≡◌, ◌≢◌, ℕ, Bool, true, false, List, Option, Result, Ok, Err, MatchResult, refl, sym, subst, ◌∙◌}
-use Rattle.table_commands.specs.command_base.declared.fault.ToolFault.{ToolFault}
-use Rattle.table_commands.specs.command_base.declared.fault.ToolFault.TheVariants.{OutOfMemory, Write}
-use Rattle.table_commands.specs.command_base.declared.status.Status.{Status}
-use Rattle.table_commands.specs.command_base.declared.stop.Stop.{Stop}
-use Rattle.table_commands.specs.command_base.declared.stop.Stop.TheVariants.{Tool}
-use Rattle.table_commands.specs.command_base.CarriesOut.{IsKept}
-use Rattle.table_commands.specs.command_base.Output.{Output}
-use Rattle.table_commands.specs.command_base.Stop.{tool}
+use Rattle.command_base.specs.declared.fault.ToolFault.{ToolFault}
+use Rattle.command_base.specs.declared.fault.ToolFault.TheVariants.{OutOfMemory, Write}
+use Rattle.command_base.specs.declared.status.Status.{Status}
+use Rattle.command_base.specs.declared.stop.Stop.{Stop}
+use Rattle.command_base.specs.declared.stop.Stop.TheVariants.{Tool}
+use Rattle.command_base.specs.CarriesOut.{IsKept}
+use Rattle.command_base.specs.Output.{Output}
+use Rattle.command_base.specs.Stop.{tool}
 use Rattle.resource_tool.specs.Answered.{PrintsBothOneOf}
 use Rattle.resource_tool.specs.Make.{OpenMakeOf, PrintsMade}
 use Rattle.resource_tool.specs.MakeOutput.{IsMakeAnswer}

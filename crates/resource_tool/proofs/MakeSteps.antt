@@ -4,7 +4,7 @@ use Rattle.std.specs.List.{All}
 use Rattle.std.specs.Io.KnownBytes.{Appends}
 use Rattle.std.proofs.lemmas.List.{get_or-map, length-map}
 use Rattle.std.proofs.lemmas.List.Elements.{All-weaker}
-use Rattle.table_commands.specs.config_record.locales.declared.locale_rule.LocaleRule.{LocaleRule}
+use Rattle.command_base.specs.answer_text.config_record.locales.declared.locale_rule.LocaleRule.{LocaleRule}
 use Rattle.resource_text.specs.cert_maker.box_answers.NumberSet.{SetOf}
 use Rattle.resource_text.specs.cert_maker.config_box.ByRule.{IsByRule}
 use Rattle.resource_text.specs.cert_maker.FitsBox.{FitsBox}
@@ -15,10 +15,10 @@ use Rattle.resource_text.specs.cert_maker.declared.made.Made.TheVariants.{Cert, 
 use Rattle.resource_text.specs.cert_maker.Made.{IsMade, CanBeWritten}
 use Rattle.resource_text.specs.cert_maker.cert_checker.FirstFault.{goals_in, IsAccepted}
 use Rattle.resource_text.specs.cert_maker.Least.{IsLeast}
-use Rattle.table_commands.specs.command_base.declared.fault.ToolFault.{ToolFault}
-use Rattle.table_commands.specs.command_base.declared.status.Status.{Status}
-use Rattle.table_commands.specs.command_base.declared.status.Status.TheVariants.{Done, Negative}
-use Rattle.table_commands.specs.command_base.Output.{Output, Prints, PrintsOneOf}
+use Rattle.command_base.specs.declared.fault.ToolFault.{ToolFault}
+use Rattle.command_base.specs.declared.status.Status.{Status}
+use Rattle.command_base.specs.declared.status.Status.TheVariants.{Done, Negative}
+use Rattle.command_base.specs.Output.{Output, Prints, PrintsOneOf}
 use Rattle.resource_tool.specs.Answered.{PrintsBothOneOf}
 use Rattle.resource_tool.specs.GoalTold.{goal_told}
 use Rattle.resource_tool.specs.MakeOutput.{MakeInputs, IsReadAccepted, IsMakeOutput, IsMakeOutputAbout, IsMakeAnswer, certificate_line, goal_of_made, made_output, made_text}

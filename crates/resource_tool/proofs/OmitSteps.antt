@@ -8,11 +8,11 @@ use Rattle.resource_text.specs.cert_maker.cert_checker.FirstFault.{IsAccepted}
 use Rattle.resource_text.specs.cert_maker.declared.omitted.Omitting.{Omitting}
 use Rattle.resource_text.specs.cert_maker.declared.omitted.Omitting.TheVariants.{Cert, NodeLimit}
 use Rattle.resource_text.specs.cert_maker.Omitting.{IsOmitting}
-use Rattle.table_commands.specs.command_base.declared.fault.ToolFault.{ToolFault}
-use Rattle.table_commands.specs.command_base.declared.fault.ToolFault.TheVariants as faults
-use Rattle.table_commands.specs.command_base.declared.status.Status.{Status}
-use Rattle.table_commands.specs.command_base.declared.status.Status.TheVariants.{Done}
-use Rattle.table_commands.specs.MapOutput.{MapOutput, PrintsBoth}
+use Rattle.command_base.specs.declared.fault.ToolFault.{ToolFault}
+use Rattle.command_base.specs.declared.fault.ToolFault.TheVariants as faults
+use Rattle.command_base.specs.declared.status.Status.{Status}
+use Rattle.command_base.specs.declared.status.Status.TheVariants.{Done}
+use Rattle.resource_tool.specs.MapOutput.{MapOutput, PrintsBoth}
 use Rattle.resource_tool.specs.MakeOutput.{MakeInputs, IsReadAccepted}
 use Rattle.resource_tool.specs.OmitOutput.{IsOmitOutput, LinesFirst, ToldFirst, kept_goals, kept_output, omit_output}
 use Rattle.resource_tool.specs.LineReadsBack.{OmittingReadsBack, TreesReadBack, UnlessMemory}

@@ -1,9 +1,9 @@
 -- An answer that is not printed, and nothing is told; and one that is another answer too.
 use Rattle.std.proofs.Common.{◌≡◌, ℕ, List, Option, Result, Ok, Err, refl}
-use Rattle.table_commands.specs.command_base.declared.fault.ToolFault.{ToolFault}
-use Rattle.table_commands.specs.command_base.declared.fault.ToolFault.TheVariants.{Apk, Table, Layers, LayerApk, LayerTable, LayerMap, SideLayers, SideApk, SideTable, SideMap, Device, Box, Certificate, OutOfMemory, Write}
-use Rattle.table_commands.specs.command_base.declared.status.Status.{Status}
-use Rattle.table_commands.specs.command_base.Output.{Output, PrintsOneOf}
+use Rattle.command_base.specs.declared.fault.ToolFault.{ToolFault}
+use Rattle.command_base.specs.declared.fault.ToolFault.TheVariants.{Apk, Table, Layers, LayerApk, LayerTable, LayerMap, SideLayers, SideApk, SideTable, SideMap, Device, Box, Certificate, OutOfMemory, Write}
+use Rattle.command_base.specs.declared.status.Status.{Status}
+use Rattle.command_base.specs.Output.{Output, PrintsOneOf}
 use Rattle.resource_tool.specs.Answered.{PrintsBothOneOf}
 
 pub nothing-told : {W V X : Type 0} (Allows : X → Output → Type 0) (Tells : X → Output → List ℕ → Type 0) (contents : W → Option (List ℕ)) (says : V → Option (List ℕ)) (old new : W) (shown : V)

@@ -1,10 +1,10 @@
 -- What is printed as an answer, and what is said beside it of the goal that it is about.
 use Rattle.std.specs.Prelude.{◌≡◌, ℕ, List, Option, None, Result, Ok, Err, IsOk}
 use Rattle.std.specs.Io.KnownBytes.{Appends}
-use Rattle.table_commands.specs.command_base.declared.fault.ToolFault.{ToolFault}
-use Rattle.table_commands.specs.command_base.declared.fault.ToolFault.TheVariants.{OutOfMemory, Write}
-use Rattle.table_commands.specs.command_base.declared.status.Status.{Status}
-use Rattle.table_commands.specs.command_base.Output.{Output}
+use Rattle.command_base.specs.declared.fault.ToolFault.{ToolFault}
+use Rattle.command_base.specs.declared.fault.ToolFault.TheVariants.{OutOfMemory, Write}
+use Rattle.command_base.specs.declared.status.Status.{Status}
+use Rattle.command_base.specs.Output.{Output}
 use Rattle.resource_tool.specs.declared.answered.Answered.{Answered}
 
 -- the status of an answer

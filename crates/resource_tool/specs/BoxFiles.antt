@@ -3,11 +3,11 @@
 use Rattle.std.specs.Prelude.{ℕ, List, Result, Ok}
 use Rattle.contract_words.specs.Faults.{◌>>=◌}
 use Rattle.contract_words.specs.Sequences.{joined_each}
-use Rattle.table_commands.specs.command_base.FilesSeen.{layers_held, paths_held}
-use Rattle.table_commands.specs.command_base.FileWords.{strings_held, words_at}
-use Rattle.table_commands.specs.command_base.Inputs.{Places, file_of, layers_of, paths_of_layers}
-use Rattle.table_commands.specs.command_base.StackBytes.{LayerBytes}
-use Rattle.table_commands.specs.command_base.Stop.{StopOf}
+use Rattle.command_base.specs.FilesSeen.{layers_held, paths_held}
+use Rattle.command_base.specs.FileWords.{strings_held, words_at}
+use Rattle.command_base.specs.Inputs.{Places, file_of, layers_of, paths_of_layers}
+use Rattle.command_base.specs.StackBytes.{LayerBytes}
+use Rattle.command_base.specs.Stop.{StopOf}
 use Rattle.resource_tool.specs.declared.box_files.BoxFiles.{BoxFiles}
 use Rattle.resource_tool.specs.declared.box_files.GoalFiles.{GoalFiles}
 

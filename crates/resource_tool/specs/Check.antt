@@ -4,16 +4,16 @@ use Rattle.std.specs.Prelude.{ℕ, ◌+◌, List, [], map, length, take, Option,
 use Rattle.contract_words.specs.Faults.{◌>>=◌}
 use Rattle.contract_words.specs.Sequences.{joined_each}
 use Rattle.json_input.specs.Each.{each}
-use Rattle.table_commands.specs.command_base.declared.status.Status.{Status}
-use Rattle.table_commands.specs.command_base.declared.stop.Stop.{Stop}
-use Rattle.table_commands.specs.command_base.CarriesOut.{CarriesOut, read_or_stop, found_or_stop}
-use Rattle.table_commands.specs.command_base.FilesSeen.{layers_held, paths_held}
-use Rattle.table_commands.specs.command_base.FileWords.{goal_asked, strings_held, texts_of, words_at}
-use Rattle.table_commands.specs.command_base.Inputs.{Places, file_of}
-use Rattle.table_commands.specs.command_base.StackBytes.{LayerBytes}
-use Rattle.table_commands.specs.command_base.Stop.{StopOf}
-use Rattle.table_commands.specs.command_base.names.NamedGoals.{goals_named}
-use Rattle.table_commands.specs.config_record.locales.declared.locale_rule.LocaleRule.{LocaleRule}
+use Rattle.command_base.specs.declared.status.Status.{Status}
+use Rattle.command_base.specs.declared.stop.Stop.{Stop}
+use Rattle.command_base.specs.CarriesOut.{CarriesOut, read_or_stop, found_or_stop}
+use Rattle.command_base.specs.FilesSeen.{layers_held, paths_held}
+use Rattle.command_base.specs.FileWords.{goal_asked, strings_held, texts_of, words_at}
+use Rattle.command_base.specs.Inputs.{Places, file_of}
+use Rattle.command_base.specs.StackBytes.{LayerBytes}
+use Rattle.command_base.specs.Stop.{StopOf}
+use Rattle.command_base.specs.names.NamedGoals.{goals_named}
+use Rattle.command_base.specs.answer_text.config_record.locales.declared.locale_rule.LocaleRule.{LocaleRule}
 use Rattle.resource_text.specs.cert_maker.res_value.Goal.{GoalSeen, goal_seen}
 use Rattle.resource_tool.specs.declared.check.Check.{Check}
 use Rattle.resource_tool.specs.declared.check.CheckFiles.{CheckFiles}

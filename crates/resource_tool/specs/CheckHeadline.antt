@@ -5,8 +5,8 @@ use Rattle.std.specs.Io.KnownBytes.{Appends}
 use Rattle.resource_text.specs.cert_maker.res_value.Goal.{GoalSeen}
 use Rattle.resource_text.specs.cert_maker.cert_checker.declared.verdict.Verdict.{Verdict}
 use Rattle.resource_text.specs.cert_maker.cert_checker.Headline.{Headline}
-use Rattle.table_commands.specs.command_base.declared.status.Status.{Status}
-use Rattle.table_commands.specs.command_base.StackBytes.{LayerBytes}
+use Rattle.command_base.specs.declared.status.Status.{Status}
+use Rattle.command_base.specs.StackBytes.{LayerBytes}
 use Rattle.resource_tool.specs.CheckOutput.{CheckInputs, check_inputs, check_text, status_of_verdict}
 
 -- The bytes mean layers, a box and a certificate, and a verdict was printed, of which the headline holds: if the checker

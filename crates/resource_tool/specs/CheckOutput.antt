@@ -3,11 +3,11 @@ use Rattle.std.specs.Prelude.{◌≡◌, ℕ, ◌++◌, Bool, List, [], length, 
 use Rattle.std.specs.List.{flat_map}
 use Rattle.std.specs.Option.{option_map}
 use Rattle.contract_words.specs.Faults.{◌>>=◌}
-use Rattle.table_commands.specs.config_record.locales.declared.locale_rule.LocaleRule.{LocaleRule}
-use Rattle.table_commands.specs.config_record.locales.declared.locale_rule.LocaleRule.TheVariants.{LanguageAndRegion}
+use Rattle.command_base.specs.answer_text.config_record.locales.declared.locale_rule.LocaleRule.{LocaleRule}
+use Rattle.command_base.specs.answer_text.config_record.locales.declared.locale_rule.LocaleRule.TheVariants.{LanguageAndRegion}
 use Rattle.resource_text.specs.cert_maker.box_answers.NumberSet.{SetOf}
 use Rattle.resource_text.specs.cert_maker.config_box.BoxJson.{box_in_by}
-use Rattle.table_commands.specs.overlay_map.Layer.{LayerOf}
+use Rattle.command_base.specs.overlay_map.Layer.{LayerOf}
 use Rattle.resource_text.specs.cert_maker.cert_tree.Certificate.{GoalOf}
 use Rattle.resource_text.specs.cert_maker.res_value.Goal.{GoalSeen}
 use Rattle.resource_text.specs.cert_maker.cert_tree.CertJson.{cert_in_by}
@@ -15,19 +15,19 @@ use Rattle.resource_text.specs.cert_maker.cert_checker.declared.verdict.Verdict.
 use Rattle.resource_text.specs.cert_maker.cert_checker.declared.verdict.Verdict.TheVariants.{Accepted, Rejected}
 use Rattle.resource_text.specs.cert_maker.cert_checker.Verdict.{IsVerdict}
 use Rattle.resource_text.specs.cert_maker.cert_checker.Headline.{Headline}
-use Rattle.table_commands.specs.command_base.declared.fault.ToolFault.{ToolFault}
-use Rattle.table_commands.specs.command_base.ToolFault.{fault_of_box, fault_of_certificate}
-use Rattle.table_commands.specs.answer_text.QueryText.{set_aside_line}
+use Rattle.command_base.specs.declared.fault.ToolFault.{ToolFault}
+use Rattle.command_base.specs.ToolFault.{fault_of_box, fault_of_certificate}
+use Rattle.command_base.specs.answer_text.QueryText.{set_aside_line}
 use Rattle.resource_text.specs.declared.rejection.Rejection.{Rejection}
 use Rattle.resource_text.specs.RejectionNotation.{rejections_in, verdict_in}
 use Rattle.resource_text.specs.VerdictText.{verdict_text}
 use Rattle.resource_text.specs.answer_notation.Naming.{NamingOf}
-use Rattle.table_commands.specs.command_base.declared.status.Status.{Status}
-use Rattle.table_commands.specs.command_base.declared.status.Status.TheVariants.{Done, Negative}
-use Rattle.table_commands.specs.command_base.Output.{Output}
-use Rattle.table_commands.specs.command_base.SetAside.{rows_set_aside}
-use Rattle.table_commands.specs.command_base.StackBytes.{LayerBytes, stack_in}
-use Rattle.table_commands.specs.command_base.MapErr.{map_err}
+use Rattle.command_base.specs.declared.status.Status.{Status}
+use Rattle.command_base.specs.declared.status.Status.TheVariants.{Done, Negative}
+use Rattle.command_base.specs.Output.{Output}
+use Rattle.command_base.specs.SetAside.{rows_set_aside}
+use Rattle.command_base.specs.StackBytes.{LayerBytes, stack_in}
+use Rattle.command_base.specs.MapErr.{map_err}
 use Rattle.resource_tool.specs.EachGoal.{AreAllRejections, goes_on}
 use Rattle.resource_tool.specs.GoalTold.{goal_told}
 

@@ -1,8 +1,8 @@
 -- Each goal of a certificate by itself.
 use Rattle.std.specs.Prelude.{◌≡◌, ℕ, ◌+◌, Bool, List, [], ◌∷◌, ◌++◌, Option, Some, None, if◌then◌else◌}
-use Rattle.table_commands.specs.overlay_map.Layer.{LayerOf}
+use Rattle.command_base.specs.overlay_map.Layer.{LayerOf}
 use Rattle.resource_text.specs.cert_maker.box_answers.NumberSet.{SetOf}
-use Rattle.table_commands.specs.reference_resolver.declared.end.End.{End}
+use Rattle.command_base.specs.answer_text.reference_resolver.declared.end.End.{End}
 use Rattle.resource_text.specs.cert_maker.cert_tree.Certificate.{GoalOf}
 use Rattle.resource_text.specs.cert_maker.cert_checker.declared.rule.Rule.TheVariants.{GoalList}
 use Rattle.resource_text.specs.cert_maker.cert_checker.declared.verdict.Verdict.{Verdict}

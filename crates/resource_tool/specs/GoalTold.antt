@@ -2,8 +2,8 @@
 use Rattle.std.specs.Prelude.{ℕ, Bool, List, [], ◌∷◌, ◌++◌, codes, slice_get, Option, Some, None, if◌then◌else◌}
 use Rattle.std.specs.Fmt.{decimal}
 use Rattle.resource_text.specs.cert_maker.res_value.Goal.{GoalSeen, IdGoal, AttrGoal}
-use Rattle.table_commands.specs.overlay_map.Layer.{LayerOf}
-use Rattle.table_commands.specs.answer_text.GoalText as text
+use Rattle.command_base.specs.overlay_map.Layer.{LayerOf}
+use Rattle.command_base.specs.answer_text.GoalText as text
 
 -- the word of a goal, and the names of its ids
 unfoldable pub named_words : List LayerOf → GoalSeen → List ℕ

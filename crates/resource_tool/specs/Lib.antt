@@ -1,3 +1,12 @@
+pub mod TableOutput
+pub mod MapOutput
+pub mod Opened
+pub mod EndStatus
+pub mod QueryOutput
+pub mod ExplainOutput
+pub mod BagOutput
+pub mod AttrOutput
+pub mod DeviceOutput
 pub mod GoalTold
 pub mod Answered
 pub mod EachGoal
@@ -10,7 +19,10 @@ pub mod BoxFiles
 pub mod LineReadsBack
 pub mod Make
 pub mod Check
+pub use Rattle.command_base.specs as command_base
+pub use Rattle.command_base.specs.answer_text
+pub use Rattle.command_base.specs.answer_text.config_record
+pub use Rattle.command_base.specs.answer_text.reference_resolver
+pub use Rattle.command_base.specs.overlay_map
 pub use Rattle.resource_text.specs.cert_maker.cert_tree
 pub use Rattle.resource_text.specs.cert_maker.res_value
-pub use Rattle.table_commands.specs as table_commands
-pub use Rattle.table_commands.specs.command_base

@@ -1,15 +1,15 @@
 -- The line of a certificate, read again. (Cited by contracts of this crate alone.)
 use Rattle.std.specs.Prelude.{◌≡◌, List, Result, Ok, Err}
-use Rattle.table_commands.specs.config_record.locales.declared.locale_rule.LocaleRule.{LocaleRule}
+use Rattle.command_base.specs.answer_text.config_record.locales.declared.locale_rule.LocaleRule.{LocaleRule}
 use Rattle.resource_text.specs.cert_maker.cert_tree.Certificate.{GoalOf, CertFits, goals_of}
 use Rattle.resource_text.specs.cert_maker.cert_tree.CertJson.{cert_in_by}
 use Rattle.resource_text.specs.cert_maker.declared.made.Made.{Made}
 use Rattle.resource_text.specs.cert_maker.declared.made.Made.TheVariants.{Cert, Counter, NodeLimit}
 use Rattle.resource_text.specs.cert_maker.declared.omitted.Omitting.{Omitting}
 use Rattle.resource_text.specs.cert_maker.declared.omitted.Omitting.TheVariants as omitting
-use Rattle.table_commands.specs.command_base.declared.status.Status.{Status}
-use Rattle.table_commands.specs.command_base.declared.fault.ToolFault.{ToolFault}
-use Rattle.table_commands.specs.command_base.declared.fault.ToolFault.TheVariants.{OutOfMemory}
+use Rattle.command_base.specs.declared.status.Status.{Status}
+use Rattle.command_base.specs.declared.fault.ToolFault.{ToolFault}
+use Rattle.command_base.specs.declared.fault.ToolFault.TheVariants.{OutOfMemory}
 use Rattle.resource_tool.specs.MakeOutput.{certificate_line}
 
 -- what is printed of trees within the limits is read as the same, by the rule by which they fit

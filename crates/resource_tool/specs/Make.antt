@@ -3,17 +3,17 @@
 use Rattle.std.specs.Prelude.{◌≡◌, ℕ, ◌+◌, Bool, true, false, List, map, take, Option, Result, Ok}
 use Rattle.contract_words.specs.Faults.{◌>>=◌}
 use Rattle.json_input.specs.Each.{each}
-use Rattle.table_commands.specs.command_base.declared.fault.ToolFault.{ToolFault}
-use Rattle.table_commands.specs.command_base.declared.status.Status.{Status}
-use Rattle.table_commands.specs.command_base.declared.stop.Stop.{Stop}
-use Rattle.table_commands.specs.command_base.CarriesOut.{CarriesOut, read_or_stop, found_or_stop}
-use Rattle.table_commands.specs.command_base.FileWords.{goal_asked, texts_of}
-use Rattle.table_commands.specs.command_base.Inputs.{Places}
-use Rattle.table_commands.specs.command_base.Output.{Output}
-use Rattle.table_commands.specs.command_base.StackBytes.{LayerBytes}
-use Rattle.table_commands.specs.command_base.Stop.{StopOf}
-use Rattle.table_commands.specs.command_base.names.NamedGoals.{goals_named}
-use Rattle.table_commands.specs.config_record.locales.declared.locale_rule.LocaleRule.{LocaleRule}
+use Rattle.command_base.specs.declared.fault.ToolFault.{ToolFault}
+use Rattle.command_base.specs.declared.status.Status.{Status}
+use Rattle.command_base.specs.declared.stop.Stop.{Stop}
+use Rattle.command_base.specs.CarriesOut.{CarriesOut, read_or_stop, found_or_stop}
+use Rattle.command_base.specs.FileWords.{goal_asked, texts_of}
+use Rattle.command_base.specs.Inputs.{Places}
+use Rattle.command_base.specs.Output.{Output}
+use Rattle.command_base.specs.StackBytes.{LayerBytes}
+use Rattle.command_base.specs.Stop.{StopOf}
+use Rattle.command_base.specs.names.NamedGoals.{goals_named}
+use Rattle.command_base.specs.answer_text.config_record.locales.declared.locale_rule.LocaleRule.{LocaleRule}
 use Rattle.resource_text.specs.cert_maker.res_value.Goal.{GoalSeen, goal_seen}
 use Rattle.resource_tool.specs.BoxFiles.{GoalBytes, goal_files}
 use Rattle.resource_tool.specs.declared.make.Make.{Make}

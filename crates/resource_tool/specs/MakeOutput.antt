@@ -4,13 +4,13 @@ use Rattle.std.specs.Fmt.{decimal}
 use Rattle.std.specs.List.{All}
 use Rattle.serde_json.specs.Written.{compact_text}
 use Rattle.contract_words.specs.Faults.{◌>>=◌}
-use Rattle.table_commands.specs.config_record.DeviceSeen.{device_numbers}
-use Rattle.table_commands.specs.config_record.locales.declared.locale_rule.LocaleRule.{LocaleRule}
-use Rattle.table_commands.specs.config_record.locales.declared.locale_rule.LocaleRule.TheVariants.{LanguageAndRegion}
+use Rattle.command_base.specs.answer_text.config_record.DeviceSeen.{device_numbers}
+use Rattle.command_base.specs.answer_text.config_record.locales.declared.locale_rule.LocaleRule.{LocaleRule}
+use Rattle.command_base.specs.answer_text.config_record.locales.declared.locale_rule.LocaleRule.TheVariants.{LanguageAndRegion}
 use Rattle.resource_text.specs.cert_maker.box_answers.NumberSet.{SetOf}
 use Rattle.resource_text.specs.cert_maker.config_box.BoxJson.{box_in_by}
-use Rattle.table_commands.specs.overlay_map.Layer.{LayerOf}
-use Rattle.table_commands.specs.reference_resolver.declared.end.End.{End}
+use Rattle.command_base.specs.overlay_map.Layer.{LayerOf}
+use Rattle.command_base.specs.answer_text.reference_resolver.declared.end.End.{End}
 use Rattle.resource_text.specs.cert_maker.cert_tree.Certificate.{GoalOf, GoalFits, goals_of, most_nodes}
 use Rattle.resource_text.specs.cert_maker.res_value.Goal.{GoalSeen}
 use Rattle.resource_text.specs.cert_maker.cert_tree.CertJson.{cert_in_by}
@@ -20,14 +20,14 @@ use Rattle.resource_text.specs.cert_maker.declared.made.Made.{Made}
 use Rattle.resource_text.specs.cert_maker.declared.made.Made.TheVariants.{Cert, Counter, NodeLimit}
 use Rattle.resource_text.specs.cert_maker.Made.{IsMade}
 use Rattle.resource_text.specs.cert_maker.Least.{IsLeast}
-use Rattle.table_commands.specs.command_base.declared.fault.ToolFault.{ToolFault}
-use Rattle.table_commands.specs.command_base.ToolFault.{fault_of_box}
+use Rattle.command_base.specs.declared.fault.ToolFault.{ToolFault}
+use Rattle.command_base.specs.ToolFault.{fault_of_box}
 use Rattle.resource_text.specs.VerdictText.{device_with_end}
-use Rattle.table_commands.specs.command_base.declared.status.Status.{Status}
-use Rattle.table_commands.specs.command_base.declared.status.Status.TheVariants.{Done, Negative}
-use Rattle.table_commands.specs.command_base.Output.{Output}
-use Rattle.table_commands.specs.command_base.StackBytes.{LayerBytes, stack_in}
-use Rattle.table_commands.specs.command_base.MapErr.{map_err}
+use Rattle.command_base.specs.declared.status.Status.{Status}
+use Rattle.command_base.specs.declared.status.Status.TheVariants.{Done, Negative}
+use Rattle.command_base.specs.Output.{Output}
+use Rattle.command_base.specs.StackBytes.{LayerBytes, stack_in}
+use Rattle.command_base.specs.MapErr.{map_err}
 use Rattle.resource_tool.specs.GoalTold.{goal_told}
 
 -- ---- the inputs

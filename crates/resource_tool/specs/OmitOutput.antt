@@ -2,8 +2,8 @@
 use Rattle.std.specs.Prelude.{◌≡◌, ◌⊎◌, ℕ, ◌≤◌, List, [], ◌∷◌, ◌++◌, codes, Option, Some, Result, Ok}
 use Rattle.std.specs.Io.KnownBytes.{Appends}
 use Rattle.std.specs.List.{All, flat_map}
-use Rattle.table_commands.specs.config_record.DeviceSeen.{device_numbers}
-use Rattle.table_commands.specs.overlay_map.Layer.{LayerOf}
+use Rattle.command_base.specs.answer_text.config_record.DeviceSeen.{device_numbers}
+use Rattle.command_base.specs.overlay_map.Layer.{LayerOf}
 use Rattle.resource_text.specs.cert_maker.cert_tree.Certificate.{GoalOf, GoalFits, goals_of, most_nodes}
 use Rattle.resource_text.specs.cert_maker.res_value.Goal.{GoalSeen}
 use Rattle.resource_text.specs.cert_maker.declared.made.Made.TheVariants as made
@@ -12,10 +12,10 @@ use Rattle.resource_text.specs.cert_maker.declared.omitted.Omitting.{Omitting}
 use Rattle.resource_text.specs.cert_maker.declared.omitted.Omitting.TheVariants.{Cert, NodeLimit}
 use Rattle.resource_text.specs.cert_maker.Omitting.{IsOmitting, places_of, without}
 use Rattle.resource_text.specs.VerdictText.{device_with_end}
-use Rattle.table_commands.specs.command_base.declared.fault.ToolFault.{ToolFault}
-use Rattle.table_commands.specs.command_base.declared.status.Status.TheVariants.{Done, Negative}
-use Rattle.table_commands.specs.command_base.Output.{Output}
-use Rattle.table_commands.specs.MapOutput.{MapOutput}
+use Rattle.command_base.specs.declared.fault.ToolFault.{ToolFault}
+use Rattle.command_base.specs.declared.status.Status.TheVariants.{Done, Negative}
+use Rattle.command_base.specs.Output.{Output}
+use Rattle.resource_tool.specs.MapOutput.{MapOutput}
 use Rattle.resource_tool.specs.GoalTold.{line_about}
 use Rattle.resource_tool.specs.MakeOutput.{MakeInputs, IsReadAccepted, certificate_line, made_output}
 

@@ -1,7 +1,7 @@
 //! How `check` and `make` are answered.
 
 ghost use Rattle.std.specs.Prelude.{◌≡◌, Ok, Err, MatchResult};
-ghost use Rattle.table_commands.specs.command_base.declared.stop.Stop.TheVariants.{Tool};
+ghost use Rattle.command_base.specs.declared.stop.Stop.TheVariants.{Tool};
 
 use command_base::{Status, Stop, ToolFault};
 

@@ -1,7 +1,7 @@
 //! The files of a command for a box of devices, in the order in which they are read.
 
 ghost use Rattle.std.specs.Prelude.{◌≡◌, map, IfSome};
-ghost use Rattle.table_commands.specs.command_base.Stop.{GivesOrStops};
+ghost use Rattle.command_base.specs.Stop.{GivesOrStops};
 ghost use Rattle.resource_tool.specs.BoxFiles.{box_files, box_held, goal_files, goals_held};
 
 use command_base::{Inputs, LayerFiles, Stop, asked_words, file_bytes};

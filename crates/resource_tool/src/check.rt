@@ -3,17 +3,17 @@
 ghost use Rattle.std.specs.Prelude.{◌≡◌, false, map, string_bytes, Ok, IfOk, IfSome};
 ghost use Rattle.contract_words.specs.Exact.{GivesOr};
 ghost use Rattle.contract_words.specs.Writes.{Writes};
-ghost use Rattle.table_commands.specs.command_base.declared.fault.ToolFault.TheVariants.{OutOfMemory, Write};
-ghost use Rattle.table_commands.specs.command_base.Output.{PrintsOneOf, IsOfInput};
-ghost use Rattle.table_commands.specs.command_base.StackBytesSeen.{layer_bytes};
-ghost use Rattle.table_commands.specs.command_base.Stop.{GivesOrStops};
+ghost use Rattle.command_base.specs.declared.fault.ToolFault.TheVariants.{OutOfMemory, Write};
+ghost use Rattle.command_base.specs.Output.{PrintsOneOf, IsOfInput};
+ghost use Rattle.command_base.specs.StackBytesSeen.{layer_bytes};
+ghost use Rattle.command_base.specs.Stop.{GivesOrStops};
 ghost use Rattle.resource_text.specs.cert_maker.res_value.Goal.{goal_seen};
 ghost use Rattle.resource_tool.specs.Answered.{PrintsBothOneOf};
 ghost use Rattle.resource_tool.specs.Check.{Checks, ChecksFiles, check_files, check_held, check_opened, check_seen, first_opened, telling_of};
 ghost use Rattle.resource_tool.specs.CheckOutput.{IsCheckOutput, IsCheckAnswer, check_inputs, check_inputs_by, said_lines, status_of_verdict};
 ghost use Rattle.resource_tool.specs.CheckHeadline.{HeadlineHolds};
 ghost use Rattle.resource_tool.specs.OpenedSeen.{opened_cert};
-ghost use Rattle.table_commands.specs.command_base.CarriesOut.{IsKept};
+ghost use Rattle.command_base.specs.CarriesOut.{IsKept};
 
 use crate::answered::status_or_stop;
 use crate::box_files::BoxFiles;

@@ -4,14 +4,14 @@ ghost use Rattle.std.specs.Prelude.{◌≡◌, ◌∷◌, ◌++◌, ◌||◌, []
 ghost use Rattle.contract_words.specs.Exact.{GivesOr};
 ghost use Rattle.contract_words.specs.Writes.{Writes};
 ghost use Rattle.serde_json.specs.Written.{compact_text};
-ghost use Rattle.table_commands.specs.command_base.declared.fault.ToolFault.TheVariants.{OutOfMemory, Write};
-ghost use Rattle.table_commands.specs.command_base.Output.{IsOfInput, Prints, PrintsOneOf};
-ghost use Rattle.table_commands.specs.command_base.StackBytesSeen.{layer_bytes};
-ghost use Rattle.table_commands.specs.command_base.Stop.{GivesOrStops};
+ghost use Rattle.command_base.specs.declared.fault.ToolFault.TheVariants.{OutOfMemory, Write};
+ghost use Rattle.command_base.specs.Output.{IsOfInput, Prints, PrintsOneOf};
+ghost use Rattle.command_base.specs.StackBytesSeen.{layer_bytes};
+ghost use Rattle.command_base.specs.Stop.{GivesOrStops};
 ghost use Rattle.resource_text.specs.cert_maker.cert_tree.Certificate.{goals_of};
 ghost use Rattle.resource_text.specs.cert_maker.res_value.Goal.{goal_seen};
 ghost use Rattle.resource_text.specs.cert_maker.cert_tree.WrittenJson.{cert_data};
-ghost use Rattle.table_commands.specs.config_record.DeviceSeen.{device_numbers};
+ghost use Rattle.command_base.specs.answer_text.config_record.DeviceSeen.{device_numbers};
 ghost use Rattle.resource_tool.specs.Answered.{PrintsBothOneOf, status_in, goal_in};
 ghost use Rattle.resource_tool.specs.BoxFiles.{goals_held};
 ghost use Rattle.resource_tool.specs.Make.{Makes, MakesFiles, PrintsMade, PrintsTold, PrintsToldFirst, looked_at, make_opened, make_seen, most_goals};
@@ -20,7 +20,7 @@ ghost use Rattle.resource_tool.specs.MakeOutput.{IsMakeOutput, IsMakeOutputAbout
 ghost use Rattle.resource_tool.specs.OmitOutput.{IsOmitOutput};
 ghost use Rattle.resource_tool.specs.LineReadsBack.{LineReadsBack, TreesReadBack};
 ghost use Rattle.resource_tool.specs.OpenedSeen.{opened_box};
-ghost use Rattle.table_commands.specs.command_base.CarriesOut.{IsKept};
+ghost use Rattle.command_base.specs.CarriesOut.{IsKept};
 
 use crate::answered::{Answered, status_or_stop};
 use crate::box_files::GoalFiles;

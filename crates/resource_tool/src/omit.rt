@@ -4,7 +4,7 @@ ghost use Rattle.std.specs.Prelude.{ℕ, map, Ok, IfOk};
 ghost use Rattle.contract_words.specs.Writes.{Writes};
 ghost use Rattle.resource_text.specs.cert_maker.Omitting.{IsOmitting};
 ghost use Rattle.resource_text.specs.cert_maker.res_value.Goal.{goal_seen};
-ghost use Rattle.table_commands.specs.MapOutput.{PrintsBoth};
+ghost use Rattle.resource_tool.specs.MapOutput.{PrintsBoth};
 ghost use Rattle.resource_tool.specs.Answered.{PrintsBothOneOf};
 ghost use Rattle.resource_tool.specs.OmitOutput.{IsOmitOutput, LinesFirst, ToldFirst, omitted_text, lines_of, omit_output};
 ghost use Rattle.resource_tool.specs.LineReadsBack.{OmittingReadsBack, UnlessMemory};

@@ -16,14 +16,14 @@ use Rattle.resource_tool.specs.command_base.FileWords.{texts_of}
 use Rattle.resource_tool.specs.command_base.Inputs.{Places, layers_of, table_of}
 use Rattle.resource_tool.specs.command_base.Output.{Output, Prints, PrintsOneOf}
 use Rattle.resource_tool.specs.command_base.Stop.{StopOf, stop_of, tool}
-use Rattle.table_commands.specs.TableOutput.{rows_printed, dump_printed, ids_output}
-use Rattle.table_commands.specs.MapOutput.{MapBytes, MapOutput, PrintsBoth, map_files, map_output}
-use Rattle.table_commands.specs.DeviceOutput.{as_output}
-use Rattle.table_commands.specs.Opened.{OpenIdOf}
-use Rattle.table_commands.specs.QueryOutput.{OpenQueryOf, query_printed}
-use Rattle.table_commands.specs.ExplainOutput.{explain_printed}
-use Rattle.table_commands.specs.BagOutput.{bag_printed}
-use Rattle.table_commands.specs.AttrOutput.{OpenAttrOf, attr_printed}
+use Rattle.resource_tool.specs.TableOutput.{rows_printed, dump_printed, ids_output}
+use Rattle.resource_tool.specs.MapOutput.{MapBytes, MapOutput, PrintsBoth, map_files, map_output}
+use Rattle.resource_tool.specs.DeviceOutput.{as_output}
+use Rattle.resource_tool.specs.Opened.{OpenIdOf}
+use Rattle.resource_tool.specs.QueryOutput.{OpenQueryOf, query_printed}
+use Rattle.resource_tool.specs.ExplainOutput.{explain_printed}
+use Rattle.resource_tool.specs.BagOutput.{bag_printed}
+use Rattle.resource_tool.specs.AttrOutput.{OpenAttrOf, attr_printed}
 use Rattle.resource_tool.specs.Answered.{PrintsBothOneOf}
 use Rattle.resource_tool.specs.Make.{OpenMakeOf, MakesOpened, OnceShown}
 use Rattle.resource_tool.specs.MakeOutput.{IsMakeAnswer}

@@ -27,13 +27,13 @@ use Rattle.restool.specs.declared.asked_words.Asks.TheVariants.{Resources, Goals
 use Rattle.resource_tool.specs.command_base.declared.status.Status.{Status}
 use Rattle.resource_tool.specs.command_base.declared.stop.Stop.{Stop}
 use Rattle.resource_tool.specs.command_base.Inputs.{Places}
-use Rattle.table_commands.specs.TableOutput.{ListsIds, PrintsRows, PrintsDump}
-use Rattle.table_commands.specs.MapOutput.{PrintsMap}
-use Rattle.table_commands.specs.QueryOutput.{Queries}
-use Rattle.table_commands.specs.ExplainOutput.{Explains}
-use Rattle.table_commands.specs.BagOutput.{PrintsBag}
-use Rattle.table_commands.specs.AttrOutput.{PrintsAttr}
-use Rattle.table_commands.specs.DeviceOutput.{PrintsDevice}
+use Rattle.resource_tool.specs.TableOutput.{ListsIds, PrintsRows, PrintsDump}
+use Rattle.resource_tool.specs.MapOutput.{PrintsMap}
+use Rattle.resource_tool.specs.QueryOutput.{Queries}
+use Rattle.resource_tool.specs.ExplainOutput.{Explains}
+use Rattle.resource_tool.specs.BagOutput.{PrintsBag}
+use Rattle.resource_tool.specs.AttrOutput.{PrintsAttr}
+use Rattle.resource_tool.specs.DeviceOutput.{PrintsDevice}
 use Rattle.resource_tool.specs.Make.{Makes}
 use Rattle.resource_tool.specs.Check.{Checks}
 use Rattle.report_commands.specs.Survey.{Surveys}

@@ -24,11 +24,12 @@ use crate::left::LayerWords;
 use clap::ArgMatches;
 use diff_command::{Diff, Unused, Values};
 use report_commands::{Show, Survey};
-use resource_tool::{Check, Inputs, Make, Status, Stop, Watch};
+use resource_tool::{
+    Attr, Bag, Check, DeviceForm, Dump, Explain, Ids, Inputs, Make, Map, Query, Rows, Status, Stop, Watch,
+};
 use std::alloc::Global;
 use std::io::Write;
 use std::time::Clock;
-use table_commands::{Attr, Bag, DeviceForm, Dump, Explain, Ids, Map, Query, Rows};
 
 /// What words ask for: a command, with what its words ask. The words of resources and of goals are kept as they are: each
 /// asks for some, or names a file of such words.

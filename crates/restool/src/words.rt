@@ -10,12 +10,11 @@ use crate::command_line::command_line;
 use crate::request::{Command, Request, request_of};
 use crate::words_fault::WordsFault;
 use clap::ArgMatches;
-use resource_tool::STANDARD_INPUT;
+use resource_tool::{Rows, STANDARD_INPUT};
 use std::alloc::Global;
 use std::env;
 use std::io::{self, ErrorKind};
 use std::rt::Env;
-use table_commands::Rows;
 
 /// The words that the program was started with. The first is its name.
 pub fn program_words<R: Env + AllocGlobal>(rt: &R) -> Result<Vec<String>, WordsFault<'static>>

@@ -8,7 +8,7 @@ use crate::hints::text::text_of;
 use command_base::{Inputs, Side, Status};
 use std::alloc::Global;
 use std::str;
-use table_commands::Ids;
+use resource_tool::Ids;
 
 /// Stands for all entries of a type.
 const ALL: &str = "*";

@@ -6,10 +6,10 @@ use Rattle.resource_text.specs.cert_maker.cert_tree.declared.cert.CertGoal.{Cert
 use Rattle.resource_text.specs.cert_maker.cert_tree.Certificate.{goal_of}
 use Rattle.resource_text.specs.cert_maker.res_value.Goal.{goal_seen}
 use Rattle.resource_text.specs.cert_maker.declared.omitted.Omitting.{Omitting}
-use Rattle.table_commands.specs.command_base.declared.status.Status.TheVariants.{Done, Negative}
-use Rattle.table_commands.specs.command_base.Output.{Output}
-use Rattle.table_commands.specs.command_base.declared.fault.ToolFault.{ToolFault}
-use Rattle.table_commands.specs.MapOutput.{MapOutput}
+use Rattle.command_base.specs.declared.status.Status.TheVariants.{Done, Negative}
+use Rattle.command_base.specs.Output.{Output}
+use Rattle.command_base.specs.declared.fault.ToolFault.{ToolFault}
+use Rattle.resource_tool.specs.MapOutput.{MapOutput}
 use Rattle.resource_tool.specs.MakeOutput.{certificate_line}
 use Rattle.resource_tool.specs.OmitOutput.{kept_output, lines_of, omit_output}
 use Rattle.resource_tool.proofs.omit.print_kept.Goals as goal

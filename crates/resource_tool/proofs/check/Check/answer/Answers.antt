@@ -1,7 +1,7 @@
 use Rattle.std.proofs.Common.{map, Ok}
 use Rattle.std.proofs.lemmas.Result.{err_from_is_err_and}
 use Rattle.command_base.proofs.CarriedOut.{read_then}
-use Rattle.table_commands.proofs.Answering.{stops_unread}
+use Rattle.resource_tool.proofs.Answering.{stops_unread}
 use Rattle.resource_tool.specs.Answered.{PrintsBothOneOf}
 use Rattle.resource_tool.specs.Check.{ChecksFiles, OpenCheckOf, check_files, check_held, check_opened, paths_checked, telling_of}
 use Rattle.resource_tool.specs.CheckOutput.{IsCheckAnswer}

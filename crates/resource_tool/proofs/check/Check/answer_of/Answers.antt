@@ -1,9 +1,9 @@
 use Rattle.std.proofs.Common.{Ok, Result, inl, map, string_bytes}
 use Rattle.std.proofs.lemmas.Result.{err_from_is_err_and}
-use Rattle.table_commands.specs.command_base.declared.fault.ToolFault.{ToolFault}
-use Rattle.table_commands.specs.command_base.declared.status.Status.{Status}
+use Rattle.command_base.specs.declared.fault.ToolFault.{ToolFault}
+use Rattle.command_base.specs.declared.status.Status.{Status}
 use Rattle.resource_text.specs.cert_maker.res_value.Goal.{goal_seen}
-use Rattle.table_commands.proofs.Answering.{carried_out}
+use Rattle.resource_tool.proofs.Answering.{carried_out}
 use Rattle.resource_tool.specs.Answered.{PrintsBothOneOf}
 use Rattle.resource_tool.specs.Check.{OpenCheckOf, check_held, check_opened, check_seen, first_opened, telling_of}
 use Rattle.resource_tool.specs.CheckOutput.{IsCheckAnswer}

@@ -1,9 +1,9 @@
 use Rattle.std.proofs.Common.{◌≡◌, ℕ, ◌+◌, List, length, map, take, ap, arith, refl}
 use Rattle.std.proofs.lemmas.List.{length-map}
 use Rattle.std.proofs.lemmas.Result.{err_from_is_err_and}
-use Rattle.table_commands.specs.overlay_map.Layer.{LayerOf}
+use Rattle.command_base.specs.overlay_map.Layer.{LayerOf}
 use Rattle.resource_text.specs.cert_maker.cert_tree.Certificate.{goal_of}
-use Rattle.table_commands.specs.command_base.Stop.{tool}
+use Rattle.command_base.specs.Stop.{tool}
 use Rattle.resource_text.specs.cert_maker.res_value.Goal.{GoalSeen}
 use Rattle.resource_tool.specs.Check.{OpenCheckOf, check_opened, with_first}
 use Rattle.resource_tool.specs.CheckOutput.{CheckInputs}

@@ -1,6 +1,6 @@
 use Rattle.std.proofs.Common.{map}
 use Rattle.std.proofs.lemmas.Result.{err_from_is_err_and}
-use Rattle.table_commands.proofs.command_base_proofs.CarriedOut.{read_stops, read_then}
+use Rattle.command_base.proofs.CarriedOut.{read_stops, read_then}
 use Rattle.resource_tool.specs.BoxFiles.{GoalBytes, goal_files, goals_held}
 use Rattle.resource_tool.specs.Make.{MakesFiles, PrintsMade, make_opened}
 use Rattle.resource_tool.proofs.make.Make.answer.Goals as goal

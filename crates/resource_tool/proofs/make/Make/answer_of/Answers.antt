@@ -1,6 +1,6 @@
 use Rattle.std.proofs.Common.{inl}
 use Rattle.std.proofs.lemmas.Result.{err_from_is_err_and}
-use Rattle.table_commands.proofs.Answering.{carried_out}
+use Rattle.resource_tool.proofs.Answering.{carried_out}
 use Rattle.resource_tool.specs.BoxFiles.{goals_held}
 use Rattle.resource_tool.specs.Make.{PrintsMade, looked_at, make_opened, make_seen}
 use Rattle.resource_tool.proofs.FirstGoals.{carried-looked_at}

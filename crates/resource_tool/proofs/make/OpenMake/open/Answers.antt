@@ -1,8 +1,8 @@
 use Rattle.std.proofs.Common.{List, ap, refl, arith}
 use Rattle.std.proofs.lemmas.List.{length-map}
 use Rattle.std.proofs.lemmas.Result.{err_from_is_err_and}
-use Rattle.table_commands.specs.overlay_map.Layer.{LayerOf}
-use Rattle.table_commands.specs.command_base.Stop.{tool}
+use Rattle.command_base.specs.overlay_map.Layer.{LayerOf}
+use Rattle.command_base.specs.Stop.{tool}
 use Rattle.resource_text.specs.cert_maker.res_value.Goal.{GoalSeen, goal_seen}
 use Rattle.resource_tool.specs.BoxFiles.{goals_held}
 use Rattle.resource_tool.specs.Make.{OpenMakeOf, make_opened, most_goals, with_first}

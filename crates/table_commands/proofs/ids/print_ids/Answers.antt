@@ -1,7 +1,0 @@
-use Rattle.std.proofs.Common.{refl}
-use Rattle.table_commands.proofs.ids.print_ids.Goals as goal
-
-pub returns : goal.returns
-returns g c =
-    let text = rw (c.in_ok-names.ensures, c.deref.ensures.value, c.in_ok-ids.ensures) at c.in_ok-write_ids.ensures in
-    (_, refl, text)

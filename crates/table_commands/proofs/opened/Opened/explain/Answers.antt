@@ -1,8 +1,0 @@
-use Rattle.std.proofs.Common.{refl}
-use Rattle.table_commands.proofs.opened.Opened.explain.Goals as goal
-
-pub returns : goal.returns
-returns g c =
-    let text = rw c.in_ok-names.ensures at c.in_ok-end.ensures.text in
-    let end = rw c.in_ok-names.ensures at c.in_ok-end.ensures.end in
-    (_, rw (c.status_of_end.ensures, end) refl, text)

@@ -1,6 +1,0 @@
-use Rattle.table_commands.proofs.opened.Opened.explain_in_notation.Goals as goal
-
-pub returns : goal.returns
-returns g c =
-    let printed = rw (c.status_of_end-status.ensures, c.resolve.ensures.value, c.deref.ensures.value, c.in_ok-text.ensures) at c.print_text.ensures in
-    printed
