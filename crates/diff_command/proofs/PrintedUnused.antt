@@ -13,8 +13,8 @@ use Rattle.command_base.specs.overlay_map.Layer.{LayerOf}
 use Rattle.command_base.specs.declared.fault.ToolFault.{ToolFault}
 use Rattle.command_base.specs.declared.fault.ToolFault.TheVariants.{OutOfMemory, Write}
 use Rattle.command_base.specs.declared.status.Status.{Status}
-use Rattle.row_use.specs.Parting.{IsWithin}
-use Rattle.row_use.specs.RowUses.{AreUses}
+use Rattle.stack_diff.specs.Parting.{IsWithin}
+use Rattle.stack_diff.specs.RowUses.{AreUses}
 use Rattle.stack_diff.specs.cert_maker.res_value.declared.res_id.ResId.{ResId}
 use Rattle.diff_command.specs.DiffInputs.{DiffInputs}
 use Rattle.diff_command.specs.Unused.{IsUnusedOutput, ids_asked, numbers_of, unused_opened}

@@ -7,7 +7,7 @@ use Rattle.std.proofs.lemmas.List.Sums.{fold-append}
 use Rattle.std.proofs.lemmas.List.{drop_more, drop_all}
 use Rattle.answer_text.specs.overlay_map.Layer.{LayerOf, by_itself}
 use Rattle.answer_text.specs.type_chunks.Row.{RowOf}
-use Rattle.row_use.specs.declared.row_use.RowUse.{RowUse}
+use Rattle.stack_diff.specs.declared.row_use.RowUse.{RowUse}
 use Rattle.diff_command.specs.declared.unused_rows.Totals.{Totals}
 use Rattle.diff_command.specs.UnusedOutput.{UsedRow, Uses, layer_lines, used_rows, with_row}
 use Rattle.diff_command.specs.UnusedTotals.{IsWithin}

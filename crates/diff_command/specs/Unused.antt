@@ -12,8 +12,8 @@ use Rattle.command_base.specs.Output.{Output, PrintsOneOf}
 use Rattle.command_base.specs.StackBytes.{LayerBytes}
 use Rattle.command_base.specs.Stop.{StopOf}
 use Rattle.command_base.specs.overlay_map.Layer.{LayerOf}
-use Rattle.row_use.specs.Parting.{IsWithin}
-use Rattle.row_use.specs.RowUses.{AreUses}
+use Rattle.stack_diff.specs.Parting.{IsWithin}
+use Rattle.stack_diff.specs.RowUses.{AreUses}
 use Rattle.stack_diff.specs.cert_maker.res_value.declared.res_id.ResId.{ResId}
 use Rattle.stack_diff.specs.config_box.config_record.locales.declared.locale_rule.LocaleRule.{LocaleRule}
 use Rattle.stack_diff.specs.names.NameFault.{NameFaultOf}

@@ -11,8 +11,8 @@ use Rattle.command_base.specs.Output.{Output, negative_if}
 use Rattle.command_base.specs.overlay_map.Layer.{LayerOf}
 use Rattle.command_base.specs.declared.status.Status.TheVariants.{Negative}
 use Rattle.res_value.specs.Cell.{CellOf, PlainOf, BagOf}
-use Rattle.row_use.specs.declared.row_use.RowUse.{RowUse}
-use Rattle.row_use.specs.declared.row_use.RowUse.TheVariants.{Loaded, Overlaid, Unused, Unmapped}
+use Rattle.stack_diff.specs.declared.row_use.RowUse.{RowUse}
+use Rattle.stack_diff.specs.declared.row_use.RowUse.TheVariants.{Loaded, Overlaid, Unused, Unmapped}
 use Rattle.diff_command.specs.declared.unused_rows.Totals.{Totals}
 
 -- ---- rows

@@ -16,8 +16,7 @@ use crate::unused_rows::push_layers;
 use crate::values::{OpenedValues, ValuesFiles};
 use command_base::{Inputs, LocaleRule, NamedSet, Status, Stop, ToolFault, asked_sets};
 use names::{NameFault, ids_named};
-use row_use::{RowUse, row_uses};
-use stack_diff::{ResId, Stack};
+use stack_diff::{ResId, RowUse, Stack, row_uses};
 use std::alloc::Global;
 use std::io::Write;
 

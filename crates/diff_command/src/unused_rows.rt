@@ -14,8 +14,7 @@ ghost use Rattle.diff_command.specs.UnusedTotals.{IsWithin};
 
 use answer_notation::{Naming, write_row_end};
 use answer_text::{Cell, MapRows, Row, Table, write_layer};
-use row_use::RowUse;
-use stack_diff::Stack;
+use stack_diff::{RowUse, Stack};
 use std::alloc::{AllocError, Global};
 use std::io::{self, Write};
 

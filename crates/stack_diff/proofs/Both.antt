@@ -19,7 +19,8 @@ use Rattle.cert_maker.specs.Needed.{IsNeededTest}
 use Rattle.cert_maker.proofs.Cut.{needed-by-trace}
 use Rattle.stack_diff.specs.declared.pair_box.PairBox.{PairBox}
 use Rattle.stack_diff.specs.declared.tree.Leaf.{Leaf}
-use Rattle.stack_diff.specs.PairBox.{members_of, HaveOneTrace, IsTraceOf, EndAt, IsOpen, PartsBoth, OpensHalves}
+use Rattle.stack_diff.specs.Parting.{HaveOneTrace}
+use Rattle.stack_diff.specs.PairBox.{members_of, IsTraceOf, EndAt, IsOpen, PartsBoth, OpensHalves}
 use Rattle.stack_diff.specs.Tree.{AddsTest}
 
 -- members part in the stack before

@@ -10,7 +10,8 @@ use Rattle.stack_diff.proofs.TraceSteps.{trace_tells_content}
 use Rattle.stack_diff.specs.declared.pair.Pair.{Pair}
 use Rattle.stack_diff.specs.declared.pair.Resource.{Resource}
 use Rattle.stack_diff.specs.Sides.{pair_differs, ends_told, trace_in, pair_traces}
-use Rattle.stack_diff.specs.PairBox.{HaveOneTrace, EndAt}
+use Rattle.stack_diff.specs.Parting.{HaveOneTrace}
+use Rattle.stack_diff.specs.PairBox.{EndAt}
 
 -- at two devices with one trace they differ alike
 pub differ-alike : (pair : Pair) (d e : List ℕ) → pair_traces pair d ≡ pair_traces pair e → pair_differs pair d ≡ pair_differs pair e

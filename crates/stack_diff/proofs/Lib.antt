@@ -14,5 +14,18 @@ pub mod TraceSteps
 pub mod DifferenceTells
 pub mod DifferenceEquality
 pub mod RowSteps
+pub mod ReachSteps
+pub mod LoadedSteps
+pub mod LookUpSteps
+pub mod PartingTree
+pub mod CellSteps
+pub mod AskSteps
+pub mod LayerSteps
+pub mod BareStack
+pub mod RaisedRows
+pub mod UsesSteps
+pub mod LimitSteps
+pub mod PushedSteps
 pub use Rattle.cert_maker.proofs.cert_checker.box_answers
 pub use Rattle.cert_maker.proofs.cert_checker.config_record
+pub use Rattle.cert_maker.proofs as cert_maker

@@ -17,14 +17,11 @@ use Rattle.stack_diff.specs.declared.pair.Pair.{Pair}
 use Rattle.stack_diff.specs.declared.pair_box.PairBox.{PairBox}
 use Rattle.stack_diff.specs.declared.pair_box.PairTrace.{PairTrace}
 use Rattle.stack_diff.specs.declared.pair_box.PairTrace.TheVariants as of_pair
+use Rattle.stack_diff.specs.Parting.{HaveOneTrace}
 use Rattle.stack_diff.specs.Sides.{trace_in, pair_traces}
 
 abbrev pub members_of : PairBox → List SetOf
 members_of part = part.before.members
-
--- all members of which a predicate holds have one trace
-abbrev pub HaveOneTrace : {X : Type 0} → (List ℕ → Type 0) → (List ℕ → X) → Type 0
-HaveOneTrace members trace = (d e : List ℕ) → members d → members e → trace d ≡ trace e
 
 -- the same members have come to where either walk stands
 pub record IsOpen (pair : Pair) (part : PairBox) : Type 0 where

@@ -6,7 +6,8 @@ ghost use Rattle.answer_text.specs.config_record.DeviceSeen.{device_numbers};
 ghost use Rattle.cert_maker.specs.box_answers.Members.{IsMember};
 ghost use Rattle.stack_diff.specs.DifferenceSeen.{difference_of};
 ghost use Rattle.stack_diff.specs.Sides.{ends_told, pair_traces};
-ghost use Rattle.stack_diff.specs.PairBox.{HaveOneTrace, EndAt, IsOpen};
+ghost use Rattle.stack_diff.specs.Parting.{HaveOneTrace};
+ghost use Rattle.stack_diff.specs.PairBox.{EndAt, IsOpen};
 ghost use Rattle.stack_diff.specs.Tree.{TellsLeaf, AddsNode, IsGrown};
 
 use crate::compared_with::ComparedWith;

@@ -1,6 +1,6 @@
 use Rattle.std.proofs.Common.{ℕ, List, Option, Some, None, map, option_map, subst, ap, ◌∙◌}
-use Rattle.row_use.specs.Parting.{IsWithin}
-use Rattle.row_use.specs.RowUses.{AreUses}
+use Rattle.stack_diff.specs.Parting.{IsWithin}
+use Rattle.stack_diff.specs.RowUses.{AreUses}
 use Rattle.diff_command.specs.Unused.{numbers_of}
 use Rattle.diff_command.specs.Values.{opened_values}
 use Rattle.diff_command.proofs.PrintedUnused.{numbers-of-slices, printed-unused}

@@ -1,7 +1,0 @@
-use Rattle.std.proofs.Common.{◌≡◌, ◌++◌, map}
-use Rattle.row_use.specs.PlacesSeen.{id_of}
-use Rattle.row_use.proofs.looked_up.ids_in.Given as goal
-
--- all ids were pushed but those that are left
-abbrev pub invariant-loop-number : goal.invariant-loop-number
-invariant-loop-number l = l.ids.items ++ map id_of l.number-iterator ≡ map id_of l.numbers.keys

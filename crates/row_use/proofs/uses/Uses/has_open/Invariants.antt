@@ -1,7 +1,0 @@
-use Rattle.std.proofs.Common.{◌≡◌, drop}
-use Rattle.std.specs.List.{list_any}
-use Rattle.row_use.specs.Raising.{cells_of, is_open_at}
-use Rattle.row_use.proofs.uses.Uses.has_open.Given as goal
-
-abbrev pub invariant-loop-row : goal.invariant-loop-row
-invariant-loop-row l = list_any (is_open_at (cells_of l.self)) (drop l.row-index l.rows) ≡ list_any (is_open_at (cells_of l.self)) l.rows
