@@ -21,8 +21,8 @@ pub mod AskedSteps
 pub mod TellsSteps
 pub mod WordSteps
 pub mod FirstSteps
-pub mod WordSetSteps
-pub mod PairWordsSteps
+pub mod SameWordSteps
+pub mod AskedWordsSteps
 pub mod PairSteps
 pub mod Cuts
 pub mod NoIds

@@ -15,12 +15,12 @@ use Rattle.names.specs.declared.pair.NamePair.{NamePair}
 use Rattle.names.specs.Packages.{PackageNameOf}
 use Rattle.names.specs.Pairs.{PairOf, pair_of}
 use Rattle.contract_words.specs.Faults.{◌>>=◌}
-use Rattle.names.specs.PairWords.{asked_in, unless, words_for}
-use Rattle.names.specs.declared.word_set.WordSet.{WordSet}
+use Rattle.names.specs.AskedWords.{asked_in, has_word, unless, words_for}
+use Rattle.names.specs.declared.asked_words.AskedWords.{AskedWords}
 use Rattle.names.specs.NamedPairs.{fault_of_found, first_fault, found_of_pairs, is_asked, pairs_in, unless_fault}
-use Rattle.names.specs.WordSet.{has_word, is_same}
-use Rattle.names.proofs.PairWordsSteps.{asks-words}
-use Rattle.names.proofs.WordSetSteps.{is_same-sym}
+use Rattle.names.specs.SameWord.{is_same}
+use Rattle.names.proofs.AskedWordsSteps.{asks-words}
+use Rattle.names.proofs.SameWordSteps.{is_same-sym}
 
 -- ---- whether some word asks for a pair
 
@@ -45,7 +45,7 @@ any_swap {A} {B} related (x ∷ xs) ys =
     ap (λ (any : Bool). list_any (related x) ys || any) (any_swap related xs ys)
     ∙ any_or (related x) (λ (y : B). list_any (λ x. related x y) xs) ys
 
-pub asked-words : (packages : List PackageNameOf) (words : WordSet) (sets : List NamedSetOf) (pair : PairOf) → ((one : NamedSetOf) → has_word words one ≡ list_any (is_same one) sets)
+pub asked-words : (packages : List PackageNameOf) (words : AskedWords) (sets : List NamedSetOf) (pair : PairOf) → ((one : NamedSetOf) → has_word words one ≡ list_any (is_same one) sets)
     → list_any (has_word words) (words_for packages pair) ≡ is_asked packages sets pair
 asked-words packages words sets pair are =
     ap (λ (has : NamedSetOf → Bool). list_any has (words_for packages pair)) (fun_ext (λ (one : NamedSetOf). are one))
@@ -60,11 +60,8 @@ map_same {A} {B} {C} f view g same (x ∷ xs) =
     ap (λ (c : C). c ∷ map f xs) (same x) ∙ ap (λ (cs : List C). g (view x) ∷ cs) (map_same f view g same xs)
 
 -- the same of each pair
-pub each-asked : (packages : List PackageNameOf) (words : WordSet) (sets : List NamedSetOf) (pairs : List NamePair) → ((one : NamedSetOf) → has_word words one ≡ list_any (is_same one) sets)
-    → map (λ pair. list_any (has_word words) (words_for packages (pair_of pair))) pairs ≡ map (is_asked packages sets) (map pair_of pairs)
-each-asked packages words sets pairs are =
-    map_same (λ (pair : NamePair). list_any (has_word words) (words_for packages (pair_of pair))) pair_of (is_asked packages sets)
-    (λ (pair : NamePair). asked-words packages words sets (pair_of pair) are) pairs
+pub each-asked : (packages : List PackageNameOf) (sets : List NamedSetOf) (pairs : List NamePair) → map (λ pair. is_asked packages sets (pair_of pair)) pairs ≡ map (is_asked packages sets) (map pair_of pairs)
+each-asked packages sets pairs = map_same (λ (pair : NamePair). is_asked packages sets (pair_of pair)) pair_of (is_asked packages sets) (λ (pair : NamePair). refl) pairs
 
 -- ---- the pairs that are kept
 
@@ -188,12 +185,11 @@ named-kept packages (first ∷ sets) pairs some none =
 pub asked-stops : (packages : List PackageNameOf) (sets : List NamedSetOf) (pairs : List PairOf) (fault : NameFaultOf) → unless (first_fault packages pairs sets) ≡ Err fault → asked_in packages sets pairs ≡ Err fault
 asked-stops packages sets pairs fault some = ap (λ (r : Result (Unit {0}) NameFaultOf). r >>= λ _. Ok (map (is_asked packages sets) pairs)) some
 
-pub asked-all : (packages : List PackageNameOf) (words : WordSet) (sets : List NamedSetOf) (pairs : List NamePair) → unless (first_fault packages (map pair_of pairs) sets) ≡ Ok tt
-    → ((one : NamedSetOf) → has_word words one ≡ list_any (is_same one) sets)
-    → asked_in packages sets (map pair_of pairs) ≡ Ok (map (λ pair. list_any (has_word words) (words_for packages (pair_of pair))) pairs)
-asked-all packages words sets pairs none are =
+pub asked-all : (packages : List PackageNameOf) (sets : List NamedSetOf) (pairs : List PairOf) (asked : List Bool) → unless (first_fault packages pairs sets) ≡ Ok tt → asked ≡ map (is_asked packages sets) pairs
+    → asked_in packages sets pairs ≡ Ok asked
+asked-all packages sets pairs asked none are =
     let wrapped : List Bool → Result (List Bool) NameFaultOf = λ asked. Ok asked in
-    ap (λ (r : Result (Unit {0}) NameFaultOf). r >>= λ _. Ok (map (is_asked packages sets) (map pair_of pairs))) none ∙ ap wrapped (sym (each-asked packages words sets pairs are))
+    ap (λ (r : Result (Unit {0}) NameFaultOf). r >>= λ _. Ok (map (is_asked packages sets) pairs)) none ∙ ap wrapped (sym are)
 
 asked-cases : (given : Result (Unit {0}) NameFaultOf) (asked : List Bool) (fault : NameFaultOf) → (given >>= λ _. Ok asked) ≡ Err fault → given ≡ Err fault
 asked-cases (Ok none) asked fault is = absurd cc

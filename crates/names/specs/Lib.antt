@@ -35,6 +35,6 @@ pub mod AskedNames
 pub mod Finder
 pub mod WordGoals
 pub mod NamedPairs
-pub mod WordSet
-pub mod PairWords
+pub mod SameWord
+pub mod AskedWords
 pub use Rattle.overlay_map.specs as overlay_map

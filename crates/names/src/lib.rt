@@ -24,6 +24,7 @@
 
 mod android_types;
 mod asked_names;
+mod asked_words;
 mod fault;
 mod finder;
 mod found;
@@ -43,7 +44,6 @@ mod noted;
 mod package_word;
 mod packages;
 mod pair;
-mod pair_words;
 mod pairs;
 mod passed;
 mod places;
@@ -59,7 +59,6 @@ mod text;
 mod type_word;
 mod wanted;
 mod word_file;
-mod word_set;
 mod word_text;
 mod words_for;
 

@@ -1,17 +1,17 @@
 //! The pairs of words.
 
-ghost use Rattle.std.specs.Prelude.{◌++◌, List, map, Ok};
-ghost use Rattle.std.specs.List.{items_where_true, list_any};
-ghost use Rattle.names.specs.NamedSet.{named_set_of};
+ghost use Rattle.std.specs.Prelude.{◌≡◌, ◌++◌, [], List, map, Ok, IfOk};
+ghost use Rattle.std.specs.List.{items_where_true};
+ghost use Rattle.names.specs.NamedSet.{NamedSetOf, named_set_of};
 ghost use Rattle.names.specs.Pairs.{PairOf, pair_of};
 ghost use Rattle.names.specs.NameFault.{GivesNamed};
-ghost use Rattle.names.specs.NamedPairs.{fault_of_found, first_fault, pairs_named};
+ghost use Rattle.names.specs.NamedPairs.{fault_of_found, first_fault, is_asked, pairs_named};
 ghost use Rattle.names.specs.NamedIds.{packages_of};
 ghost use Rattle.names.specs.Packages.{package_name_of};
-ghost use Rattle.names.specs.WordSet.{has_word};
-ghost use Rattle.names.specs.PairWords.{asked_in, unless, words_for, AreWordsFor};
+ghost use Rattle.names.specs.AskedWords.{asked_in, unless, AreAsked};
 ghost use Rattle.names.specs.declared.found.Found.TheVariants.{Two};
 
+use crate::asked_words::AskedWords;
 use crate::fault::NameFault;
 use crate::found::Found;
 use crate::named::Named;
@@ -19,16 +19,14 @@ use crate::named_set::NamedSet;
 use crate::named_stack::NamedStack;
 use crate::packages::{PackageName, PackageNames};
 use crate::pair::NamePair;
-use crate::pair_words::PairWords;
 use crate::wanted::Wanted;
-use crate::word_set::WordSet;
-use crate::words_for::words_for;
+use crate::words_for::{id_of_sides, words_for};
 use overlay_map::ResId;
-use std::alloc::Global;
+use std::alloc::{AllocError, Global};
 
 /// Those pairs of two stacks for which some word asks, in their order; all of them without words. An id asks for a pair
 /// that it stands for in either stack, and a name for the pair that has it: in the package that it names, or in any, as long as
-/// no other package has one of that name. It walks twice over the words and three times over the pairs, however many there
+/// no other package has one of that name. It walks twice over the words and over the pairs, however many there
 /// are.
 ///
 /// ```text
@@ -74,31 +72,40 @@ fn asked_in<'n>(
 ) -> Result<Vec<bool>, NameFault>
     ensures { GivesNamed (λ asked. asked.items) result (asked_in (map package_name_of packages.entry.now) (map named_set_of sets.now) (map pair_of pairs.entry.now)) }
 {
-    check_words(alloc, packages, pairs, sets)?;
-    let words = WordSet::of_sets(alloc, sets)?;
-    are_asked(alloc, packages, &words, pairs)
+    let mut words = AskedWords::of_sets(alloc, sets)?;
+    let asked = note_pairs(alloc, packages, pairs, &mut words)?;
+    check_each(alloc, packages, &words, sets)?;
+    Ok(asked)
 }
 
-// The fault of the first word that has one.
-fn check_words<'n>(
+// Notes for each word the pairs for which it asks. Of each pair whether some word asks for it.
+fn note_pairs<'n>(
     alloc: Global,
     packages: &'n [PackageName<'_>],
     pairs: &'n [NamePair<'_>],
-    sets: &[NamedSet<'n>],
-) -> Result<(), NameFault>
-    ensures { GivesNamed (λ none. none) result (unless (first_fault (map package_name_of packages.entry.now) (map pair_of pairs.entry.now) (map named_set_of sets.now))) }
+    words: &mut AskedWords<'n>,
+) -> Result<Vec<bool>, AllocError>
+    ensures { (sets : List NamedSetOf) → AreAsked (map package_name_of packages.entry.now) sets [] words.old
+        → IfOk result (λ asked. AreAsked (map package_name_of packages.entry.now) sets (map pair_of pairs.entry.now) words.new
+        × (asked.items ≡ map (is_asked (map package_name_of packages.entry.now) sets) (map pair_of pairs.entry.now))) }
 {
-    let words = PairWords::of_pairs(alloc, packages, pairs)?;
-    check_each(alloc, packages, &words, sets)
+    let mut asked = Vec::new(alloc);
+    for pair in pairs {
+        let for_pair = words_for(alloc, packages, pair)?;
+        let is_asked = words.put_each(&for_pair, id_of_sides(pair.sides))?;
+        asked.push(is_asked)?;
+    }
+    Ok(asked)
 }
 
+// The fault of the first word that has one.
 fn check_each<'n>(
     alloc: Global,
     packages: &[PackageName<'_>],
-    words: &PairWords<'n>,
+    words: &AskedWords<'n>,
     sets: &[NamedSet<'n>],
 ) -> Result<(), NameFault>
-    ensures { (pairs : List PairOf) → AreWordsFor (map package_name_of packages.now) pairs words.now
+    ensures { (pairs : List PairOf) → AreAsked (map package_name_of packages.now) (map named_set_of sets.now) pairs words.now
         → GivesNamed (λ none. none) result (unless (first_fault (map package_name_of packages.now) pairs (map named_set_of sets.now))) }
 {
     for set in sets {
@@ -145,23 +152,6 @@ fn check_two(
         }
         NamedSet::One(Named::Id(_)) | NamedSet::OfType { .. } | NamedSet::All => Ok(()),
     }
-}
-
-// Of each pair whether one of these words asks for it.
-fn are_asked<'n>(
-    alloc: Global,
-    packages: &'n [PackageName<'_>],
-    words: &WordSet<'n>,
-    pairs: &'n [NamePair<'_>],
-) -> Result<Vec<bool>, NameFault>
-    ensures { GivesNamed (λ asked. asked.items) result (Ok (map (λ pair. list_any (has_word words.now) (words_for (map package_name_of packages.entry.now) (pair_of pair))) pairs.entry.now)) }
-{
-    let mut asked = Vec::new(alloc);
-    for pair in pairs {
-        let for_pair = words_for(alloc, packages, pair)?;
-        asked.push(words.has_any(&for_pair))?;
-    }
-    Ok(asked)
 }
 
 // Those pairs that are asked for.

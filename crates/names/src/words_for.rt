@@ -9,7 +9,7 @@ ghost use Rattle.names.specs.NamedPairs.{id_of_sides};
 ghost use Rattle.names.specs.PackageWord.{package_word_of};
 ghost use Rattle.names.specs.Packages.{package_name_of};
 ghost use Rattle.names.specs.Pairs.{pair_of};
-ghost use Rattle.names.specs.PairWords.{by_id, words_for, words_for_sides, words_for_label, words_with, word_of_package};
+ghost use Rattle.names.specs.AskedWords.{by_id, words_for, words_for_sides, words_for_label, words_with, word_of_package};
 
 use crate::label::Label;
 use crate::named::Named;

@@ -4,7 +4,7 @@ use Rattle.names.specs.NamedIds.{packages_of}
 use Rattle.names.specs.NamedSet.{named_set_of}
 use Rattle.names.specs.declared.pair.NamePair.{NamePair}
 use Rattle.names.specs.Pairs.{pair_of}
-use Rattle.names.specs.PairWords.{asked_in}
+use Rattle.names.specs.AskedWords.{asked_in}
 use Rattle.names.proofs.PairSteps.{asked-fault, asked-kept, named-none}
 use Rattle.names.proofs.WordSteps.{GivesNamed-same}
 use Rattle.names.proofs.pairs.pairs_named.Goals as goal

@@ -3,9 +3,9 @@ use Rattle.std.proofs.lemmas.List.{take_all}
 use Rattle.std.specs.List.{flat_map}
 use Rattle.names.specs.NamedSet.{named_set_of}
 use Rattle.names.specs.Packages.{package_name_of}
-use Rattle.names.specs.PairWords.{word_of_package, words_with}
+use Rattle.names.specs.AskedWords.{word_of_package, words_with}
 use Rattle.names.specs.declared.packages.PackageName.{PackageName}
-use Rattle.names.proofs.PairWordsSteps.{called-more}
+use Rattle.names.proofs.AskedWordsSteps.{called-more}
 use Rattle.names.proofs.words_for.push_called.Goals as goal
 
 pub loop-package-preserved : goal.loop-package-preserved

@@ -2,7 +2,7 @@ use Rattle.std.proofs.Common.{◌≡◌, ◌++◌, map, take}
 use Rattle.std.specs.List.{flat_map}
 use Rattle.names.specs.NamedSet.{named_set_of}
 use Rattle.names.specs.Packages.{package_name_of}
-use Rattle.names.specs.PairWords.{word_of_package, words_with}
+use Rattle.names.specs.AskedWords.{word_of_package, words_with}
 use Rattle.names.proofs.words_for.push_called.Given as goal
 
 abbrev pub invariant-loop-package : goal.invariant-loop-package

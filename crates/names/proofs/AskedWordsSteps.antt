@@ -1,6 +1,6 @@
 -- For which pairs words ask.
-use Rattle.std.proofs.Common.{◌≡◌, ℕ, ◌+◌, ◌<◌, ◌==◌, ◌&&◌, ◌||◌, Bool, true, false, cond, List, [], ◌∷◌, ◌++◌, length, map, filter, take, get_or, append_assoc, Option, Some, None, refl, sym, ap, ◌∙◌}
-use Rattle.std.proofs.Math.Bool.{or-false}
+use Rattle.std.proofs.Common.{◌≡◌, ℕ, zero, suc, ◌+◌, ◌<◌, ◌==◌, ◌&&◌, ◌||◌, Bool, true, false, cond, List, [], ◌∷◌, ◌++◌, length, map, filter, take, get_or, append_assoc, Option, Some, None, refl, sym, ap, ◌∙◌, arith}
+use Rattle.std.proofs.Math.Bool.{or-false, or-true}
 use Rattle.std.proofs.Math.Path.{fun_ext}
 use Rattle.std.proofs.lemmas.Grind.{flat_map-append}
 use Rattle.std.proofs.lemmas.List.{append-nil, map-append, map_more}
@@ -8,7 +8,7 @@ use Rattle.std.proofs.lemmas.List.Folds.{list_any-append}
 use Rattle.std.specs.BTreeMap.{get, is_at}
 use Rattle.std.specs.List.{flat_map, list_any}
 use Rattle.std.specs.Map.{lookup}
-use Rattle.std.specs.Option.{option_map_or}
+use Rattle.std.specs.Option.{is_some, option_map, option_map_or}
 use Rattle.std.specs.Str.{bytes_eq}
 use Rattle.res_value.specs.ResId.{package_of}
 use Rattle.res_value.specs.declared.res_id.ResId.{ResId}
@@ -18,20 +18,20 @@ use Rattle.names.specs.declared.named_set.NamedSet.{NamedSet}
 use Rattle.names.specs.declared.packages.PackageName.{PackageName}
 use Rattle.names.specs.declared.pair.Sides.{Sides}
 use Rattle.names.specs.declared.pair.Sides.TheVariants.{Removed, Added, Both}
-use Rattle.names.specs.declared.pair_words.PairWords.{PairWords}
+use Rattle.names.specs.declared.asked_words.AskedWords.{AskedWords}
 use Rattle.names.specs.Found.{found_among}
 use Rattle.names.specs.FoundSoFar.{also}
 use Rattle.names.specs.Label.{LabelOf, ByName, ById}
 use Rattle.names.specs.Named as word
-use Rattle.names.specs.NamedPairs.{asks_for, id_of_pair, is_named, is_of_type, is_on_a_side}
+use Rattle.names.specs.NamedPairs.{asks_for, found_of_pairs, id_of_pair, is_named, is_of_type, is_on_a_side}
 use Rattle.names.specs.NamedSet.{NamedSetOf, SetOfOne, SetOfType, SetOfAll, named_set_of}
 use Rattle.names.specs.PackageWord.{PackageWordOf, Numbered, Called}
 use Rattle.names.specs.Packages.{PackageNameOf, is_asked_in, is_called, package_name_of}
 use Rattle.names.specs.Pairs.{PairOf}
-use Rattle.names.specs.PairWords.{by_id, found_for, word_of_name, word_of_package, words_for, words_for_label, words_for_sides, words_of_package, words_with, AreWordsFor, PutsFor}
-use Rattle.names.specs.WordSet.{is_same, is_same_package}
+use Rattle.names.specs.AskedWords.{by_id, found_for, has_word, or_nothing, word_of_name, word_of_package, words_for, words_for_label, words_for_sides, words_of_package, words_with, AreAsked, PutsFor}
+use Rattle.names.specs.SameWord.{is_same, is_same_package}
 use Rattle.names.proofs.FoundLaws.{also-again, each-among, each-append}
-use Rattle.names.proofs.WordSetSteps.{at_word, bytes_eq-sym, is_same-is, is_same-sym, named_set_of-at, order, same_set}
+use Rattle.names.proofs.SameWordSteps.{at_word, bytes_eq-sym, is_same-is, is_same-itself, is_same-sym, named_set_of-at, order, same_set}
 
 -- ---- booleans
 
@@ -163,51 +163,117 @@ asks-words packages SetOfAll pair = refl
 
 -- ---- what was found for a word
 
-abbrev pub or_nothing : Option Found → Found
-or_nothing found = option_map_or (λ one. one) found Nothing
+pub found_as : (words : AskedWords) (key : NamedSet) → get order words.words key ≡ found_for words (named_set_of key)
+found_as words key = ap (λ (test : NamedSet → Bool). lookup test words.words.entries) (fun_ext (λ (other : NamedSet). same_set key other))
 
-pub found_as : (words : PairWords) (key : NamedSet) → or_nothing (get order words.words key) ≡ found_for words (named_set_of key)
-found_as words key = ap (λ (test : NamedSet → Bool). or_nothing (lookup test words.words.entries)) (fun_ext (λ (other : NamedSet). same_set key other))
-
-found_at : (words : PairWords) (one : NamedSetOf) → or_nothing (get order words.words (at_word one)) ≡ found_for words one
+found_at : (words : AskedWords) (one : NamedSetOf) → get order words.words (at_word one) ≡ found_for words one
 found_at words one = found_as words (at_word one) ∙ ap (found_for words) (named_set_of-at one)
 
-pub put-one : (key : NamedSet) (id : ResId) (found : Found) (old new : PairWords) → found ≡ also (found_for old (named_set_of key)) id
-    → ((q : NamedSet) → get order new.words q ≡ cond (is_at (order key) q) (Some found) (get order old.words q)) → PutsFor (named_set_of key ∷ []) id old new
-put-one key id found old new is updates = record {
-  put = λ one.
-      let there = named_set_of key in
-      let same : is_at (order key) (at_word one) ≡ is_same one there = same_set key (at_word one) ∙ ap (is_same there) (named_set_of-at one) ∙ is_same-sym there one in
-      sym (found_at new one)
-      ∙ ap or_nothing (updates (at_word one))
-      ∙ ap (λ (b : Bool). or_nothing (cond b (Some found) (get order old.words (at_word one)))) same
-      ∙ by one (is_same one there) refl;
+-- a word has what was put for it, and others have what they had
+put-at : (key : NamedSet) (found : Found) (old new : AskedWords) → ((q : NamedSet) → get order new.words q ≡ cond (is_at (order key) q) (Some found) (get order old.words q))
+    → (one : NamedSetOf) → found_for new one ≡ cond (is_same one (named_set_of key)) (Some found) (found_for old one)
+put-at key found old new updates one =
+    let there = named_set_of key in
+    let same : is_at (order key) (at_word one) ≡ is_same one there = same_set key (at_word one) ∙ ap (is_same there) (named_set_of-at one) ∙ is_same-sym there one in
+    sym (found_at new one)
+    ∙ updates (at_word one)
+    ∙ ap (λ (b : Bool). cond b (Some found) (get order old.words (at_word one))) same
+    ∙ ap (λ (before : Option Found). cond (is_same one there) (Some found) before) (found_at old one)
+
+-- ---- the words that are asked
+
+pub record AreNothing (sets : List NamedSetOf) (words : AskedWords) : Type 0 where
+  pub each : (one : NamedSetOf) → found_for words one ≡ cond (list_any (is_same one) sets) (Some Nothing) None
+
+pub nothing-more : (sets : List NamedSetOf) (key : NamedSet) (old new : AskedWords) → AreNothing sets old
+    → ((q : NamedSet) → get order new.words q ≡ cond (is_at (order key) q) (Some Nothing) (get order old.words q)) → AreNothing (sets ++ named_set_of key ∷ []) new
+nothing-more sets key old new before updates = record {
+  each = λ one.
+      let same = is_same one (named_set_of key) in
+      put-at key Nothing old new updates one
+      ∙ ap (λ (found : Option Found). cond same (Some Nothing) found) (before.each one)
+      ∙ by same (list_any (is_same one) sets)
+      ∙ ap (λ (any : Bool). cond any (Some Nothing) None) (sym (list_any-append (is_same one) sets (named_set_of key ∷ [])));
 }
   where
+    by : (a b : Bool) → cond a (Some Nothing) (cond b (Some Nothing) None) ≡ cond (b || (a || false)) (Some Nothing) None
+    by true true = refl
+    by true false = refl
+    by false true = refl
+    by false false = refl
+
+-- ---- an id that is put
+
+kept : (found : Option Found) → found ≡ option_map (λ one. one) found
+kept None = refl
+kept (Some found) = refl
+
+-- a word that is asked
+pub put-one : (key : NamedSet) (id : ResId) (found more : Found) (old new : AskedWords) → get order old.words key ≡ Some found → more ≡ also found id
+    → ((q : NamedSet) → get order new.words q ≡ cond (is_at (order key) q) (Some more) (get order old.words q)) → PutsFor (named_set_of key ∷ []) id old new true
+put-one key id found more old new is also_is updates = record {
+  put = λ one.
+      put-at key more old new updates one ∙ ap (λ (put : Found). cond (is_same one (named_set_of key)) (Some put) (found_for old one)) also_is
+      ∙ by one (is_same one (named_set_of key)) refl;
+  asks = sym (ap (λ (told : Option Found). is_some told || false) here);
+}
+  where
+    here : found_for old (named_set_of key) ≡ Some found
+    here = sym (found_as old key) ∙ is
+
     by : (one : NamedSetOf) (b : Bool) → is_same one (named_set_of key) ≡ b
-        → or_nothing (cond b (Some found) (get order old.words (at_word one))) ≡ cond (b || false) (also (found_for old one) id) (found_for old one)
-    by one true same = is ∙ ap (λ (w : NamedSetOf). also (found_for old w) id) (sym (is_same-is one (named_set_of key) same))
-    by one false same = found_at old one
+        → cond b (Some (also found id)) (found_for old one) ≡ option_map (λ before. cond (b || false) (also before id) before) (found_for old one)
+    by one true same = sym (ap (λ (told : Option Found). option_map (λ before. also before id) told) (ap (found_for old) (is_same-is one (named_set_of key) same) ∙ here))
+    by one false same = kept (found_for old one)
+
+-- another word
+pub put-not : (key : NamedSet) (id : ResId) (words : AskedWords) → get order words.words key ≡ None → PutsFor (named_set_of key ∷ []) id words words false
+put-not key id words is = record {
+  put = λ one. by one (is_same one (named_set_of key)) refl;
+  asks = sym (ap (λ (told : Option Found). is_some told || false) here);
+}
+  where
+    here : found_for words (named_set_of key) ≡ None
+    here = sym (found_as words key) ∙ is
+
+    by : (one : NamedSetOf) (b : Bool) → is_same one (named_set_of key) ≡ b
+        → found_for words one ≡ option_map (λ before. cond (b || false) (also before id) before) (found_for words one)
+    by one true same =
+        let told = ap (found_for words) (is_same-is one (named_set_of key) same) ∙ here in
+        told ∙ sym (ap (λ (told : Option Found). option_map (λ before. also before id) told) told)
+    by one false same = kept (found_for words one)
 
 -- ---- several words
 
-pub put-none : (id : ResId) (words : PairWords) → PutsFor [] id words words
-put-none id words = record { put = λ one. refl }
+pub put-none : (id : ResId) (words : AskedWords) → PutsFor [] id words words false
+put-none id words = record { put = λ one. kept (found_for words one); asks = refl }
 
-pub put-more : (so_far : List NamedSetOf) (more : NamedSetOf) (id : ResId) (old now new : PairWords) → PutsFor so_far id old now → PutsFor (more ∷ []) id now new → PutsFor (so_far ++ more ∷ []) id old new
-put-more so_far more id old now new before put = record {
+-- no word comes or goes
+has-kept : (f : Found → Found) (old new : Option Found) → new ≡ option_map f old → is_some new ≡ is_some old
+has-kept f None new is = ap is_some is
+has-kept f (Some found) new is = ap is_some is
+
+pub put-more : (so_far : List NamedSetOf) (more : NamedSetOf) (id : ResId) (old now new : AskedWords) (some own : Bool) → PutsFor so_far id old now some → PutsFor (more ∷ []) id now new own
+    → PutsFor (so_far ++ more ∷ []) id old new (some || own)
+put-more so_far more id old now new some own before put = record {
   put = λ one.
       put.put one
-      ∙ ap (λ (found : Found). cond (is_same one more || false) (also found id) found) (before.put one)
+      ∙ ap (λ (found : Option Found). option_map (λ found. cond (is_same one more || false) (also found id) found) found) (before.put one)
       ∙ by (list_any (is_same one) so_far) (is_same one more || false) (found_for old one)
-      ∙ ap (λ (any : Bool). cond any (also (found_for old one) id) (found_for old one)) (sym (list_any-append (is_same one) so_far (more ∷ [])));
+      ∙ ap (λ (any : Bool). option_map (λ found. cond any (also found id) found) (found_for old one)) (sym (list_any-append (is_same one) so_far (more ∷ [])));
+  asks =
+      ap (λ (b : Bool). b || own) before.asks
+      ∙ ap (λ (b : Bool). list_any (has_word old) so_far || b) (put.asks ∙ ap (λ (b : Bool). b || false) (has-kept _ (found_for old more) (found_for now more) (before.put more)))
+      ∙ sym (list_any-append (has_word old) so_far (more ∷ []));
 }
   where
-    by : (a b : Bool) (found : Found) → cond b (also (cond a (also found id) found) id) (cond a (also found id) found) ≡ cond (a || b) (also found id) found
-    by true true found = also-again found id
-    by true false found = refl
-    by false true found = refl
-    by false false found = refl
+    by : (a b : Bool) (told : Option Found)
+        → option_map (λ found. cond b (also found id) found) (option_map (λ found. cond a (also found id) found) told) ≡ option_map (λ found. cond (a || b) (also found id) found) told
+    by a b None = refl
+    by true true (Some found) = ap (λ (one : Found). Some one) (also-again found id)
+    by true false (Some found) = refl
+    by false true (Some found) = refl
+    by false false (Some found) = refl
 
 -- ---- several pairs
 
@@ -223,24 +289,48 @@ kept-more test (first ∷ pairs) pair = by (test first) (kept-more test pairs pa
     by true others = ap (λ (all : List PairOf). first ∷ all) others
     by false others = others
 
-pub words-none : (packages : List PackageNameOf) (words : PairWords) → ((one : NamedSetOf) → found_for words one ≡ Nothing) → AreWordsFor packages [] words
-words-none packages words none = none
+pub asked-none : (packages : List PackageNameOf) (sets : List NamedSetOf) (words : AskedWords) → AreNothing sets words → AreAsked packages sets [] words
+asked-none packages sets words are = are.each
 
-pub words-more : (packages : List PackageNameOf) (pairs : List PairOf) (pair : PairOf) (old new : PairWords) → AreWordsFor packages pairs old
-    → PutsFor (words_for packages pair) (id_of_pair pair) old new → AreWordsFor packages (pairs ++ pair ∷ []) new
-words-more packages pairs pair old new before put = λ one.
+pub asked-more : (packages : List PackageNameOf) (sets : List NamedSetOf) (pairs : List PairOf) (pair : PairOf) (old new : AskedWords) (asked : Bool) → AreAsked packages sets pairs old
+    → PutsFor (words_for packages pair) (id_of_pair pair) old new asked → AreAsked packages sets (pairs ++ pair ∷ []) new
+asked-more packages sets pairs pair old new asked before put = λ one.
     let test = asks_for packages one in
     let ids = map id_of_pair (filter test pairs) in
     put.put one
-    ∙ ap (λ (any : Bool). cond any (also (found_for old one) (id_of_pair pair)) (found_for old one)) (asks-words packages one pair)
-    ∙ ap (λ (found : Found). cond (test pair) (also found (id_of_pair pair)) found) (before one)
-    ∙ by ids (test pair)
-    ∙ sym (ap (λ (kept : List PairOf). found_among (map id_of_pair kept)) (kept-more test pairs pair)
-    ∙ ap found_among (map-append id_of_pair (filter test pairs) (cond (test pair) (pair ∷ []) [])))
+    ∙ ap (λ (any : Bool). option_map (λ found. cond any (also found (id_of_pair pair)) found) (found_for old one)) (asks-words packages one pair)
+    ∙ ap (λ (told : Option Found). option_map (λ found. cond (test pair) (also found (id_of_pair pair)) found) told) (before one)
+    ∙ by (list_any (is_same one) sets) ids (test pair)
+    ∙ sym (ap (λ (kept : List PairOf). cond (list_any (is_same one) sets) (Some (found_among (map id_of_pair kept))) None) (kept-more test pairs pair)
+    ∙ ap (λ (ids : List ResId). cond (list_any (is_same one) sets) (Some (found_among ids)) None) (map-append id_of_pair (filter test pairs) (cond (test pair) (pair ∷ []) [])))
   where
-    by : (ids : List ResId) (asked : Bool) → cond asked (also (found_among ids) (id_of_pair pair)) (found_among ids) ≡ found_among (ids ++ map id_of_pair (cond asked (pair ∷ []) []))
-    by ids true = sym (among-more ids (id_of_pair pair))
-    by ids false = ap found_among (sym (append-nil ids))
+    by : (there : Bool) (ids : List ResId) (asks : Bool)
+        → option_map (λ found. cond asks (also found (id_of_pair pair)) found) (cond there (Some (found_among ids)) None) ≡ cond there (Some (found_among (ids ++ map id_of_pair (cond asks (pair ∷ []) [])))) None
+    by false ids asks = refl
+    by true ids true = ap (λ (found : Found). Some found) (sym (among-more ids (id_of_pair pair)))
+    by true ids false = ap (λ (ids : List ResId). Some (found_among ids)) (sym (append-nil ids))
+
+-- a word is one of these where it is asked
+pub has-asked : (packages : List PackageNameOf) (sets : List NamedSetOf) (pairs : List PairOf) (words : AskedWords) → AreAsked packages sets pairs words
+    → (one : NamedSetOf) → has_word words one ≡ list_any (is_same one) sets
+has-asked packages sets pairs words are one = ap is_some (are one) ∙ by (list_any (is_same one) sets)
+  where
+    by : (there : Bool) → is_some (cond there (Some (found_of_pairs packages pairs one)) None) ≡ there
+    by true = refl
+    by false = refl
+
+-- what was found for a word that is asked
+any-at : (test : NamedSetOf → Bool) (sets : List NamedSet) (place : ℕ) (d : NamedSet) → place < length sets → test (named_set_of (get_or sets place d)) ≡ true → list_any test (map named_set_of sets) ≡ true
+any-at test [] place d on is = absurd (omega (arith, on))
+any-at test (set ∷ sets) zero d on is = ap (λ (b : Bool). b || list_any test (map named_set_of sets)) is
+any-at test (set ∷ sets) (suc place) d on is = ap (λ (b : Bool). test (named_set_of set) || b) (any-at test sets place d (omega (arith, on)) is) ∙ or-true (test (named_set_of set))
+
+pub found-asked : (packages : List PackageNameOf) (sets : List NamedSet) (pairs : List PairOf) (words : AskedWords) (place : ℕ) (d : NamedSet) → AreAsked packages (map named_set_of sets) pairs words
+    → place < length sets → or_nothing (found_for words (named_set_of (get_or sets place d))) ≡ found_of_pairs packages pairs (named_set_of (get_or sets place d))
+found-asked packages sets pairs words place d are on =
+    let one = named_set_of (get_or sets place d) in
+    ap or_nothing (are one
+    ∙ ap (λ (there : Bool). cond there (Some (found_of_pairs packages pairs one)) None) (any-at (is_same one) sets place d on (is_same-itself one)))
 
 -- ---- the names of packages
 

@@ -1,12 +1,10 @@
--- Words, to ask whether one is among them. Contracts within the crate alone speak of this.
-use Rattle.std.specs.Prelude.{◌≡◌, ◌==◌, ◌&&◌, ◌||◌, Bool, true, false, List, Option, Some, None}
-use Rattle.std.specs.List.{list_any}
+-- Whether two words are the same. Contracts within the crate alone speak of this.
+use Rattle.std.specs.Prelude.{◌==◌, ◌&&◌, Bool, true, false, Option, Some, None}
 use Rattle.std.specs.Str.{bytes_eq}
 use Rattle.names.specs.Named.{NamedOf}
 use Rattle.names.specs.Named as word
-use Rattle.names.specs.NamedSet.{NamedSetOf, SetOfOne, SetOfType, SetOfAll, named_set_of}
+use Rattle.names.specs.NamedSet.{NamedSetOf, SetOfOne, SetOfType, SetOfAll}
 use Rattle.names.specs.PackageWord.{PackageWordOf, Numbered, Called}
-use Rattle.names.specs.declared.word_set.WordSet.{WordSet}
 
 abbrev pub is_same_word : PackageWordOf → PackageWordOf → Bool
 is_same_word (Numbered a) (Numbered b) = a == b
@@ -39,11 +37,3 @@ is_same (SetOfType p a) SetOfAll = false
 is_same SetOfAll (SetOfOne b) = false
 is_same SetOfAll (SetOfType q b) = false
 is_same SetOfAll SetOfAll = true
-
--- whether a word is among others
-abbrev pub has_word : WordSet → NamedSetOf → Bool
-has_word set one = list_any (λ key. is_same one (named_set_of key)) set.words.keys
-
--- words were put among others
-pub record Puts (words : List NamedSetOf) (old new : WordSet) : Type 0 where
-  pub put : (one : NamedSetOf) → has_word new one ≡ (has_word old one || list_any (is_same one) words)

@@ -1,8 +1,8 @@
 -- The words that ask for a pair, and for which pairs words ask. Contracts within the crate alone speak of this.
-use Rattle.std.specs.Prelude.{◌≡◌, ◌==◌, ℕ, Bool, List, [], ◌∷◌, ◌++◌, map, Option, Some, None, Result, Ok, Err, if◌then◌else◌}
+use Rattle.std.specs.Prelude.{◌≡◌, ◌==◌, ℕ, Bool, List, [], ◌∷◌, ◌++◌, map, Option, Some, None, is_some, Result, Ok, Err, if◌then◌else◌}
 use Rattle.std.specs.List.{flat_map, list_any}
 use Rattle.std.specs.Map.{lookup}
-use Rattle.std.specs.Option.{option_map_or}
+use Rattle.std.specs.Option.{option_map, option_map_or}
 use Rattle.contract_words.specs.Faults.{◌>>=◌}
 use Rattle.res_value.specs.ResId.{package_of}
 use Rattle.res_value.specs.declared.res_id.ResId.{ResId}
@@ -16,11 +16,11 @@ use Rattle.names.specs.declared.found.Found.{Found}
 use Rattle.names.specs.declared.found.Found.TheVariants.{Nothing}
 use Rattle.names.specs.declared.pair.Sides.{Sides}
 use Rattle.names.specs.declared.pair.Sides.TheVariants.{Removed, Added, Both}
-use Rattle.names.specs.declared.pair_words.PairWords.{PairWords}
+use Rattle.names.specs.declared.asked_words.AskedWords.{AskedWords}
 use Rattle.names.specs.FoundSoFar.{also}
 use Rattle.names.specs.Label.{LabelOf, ByName, ById}
 use Rattle.names.specs.Pairs.{PairOf}
-use Rattle.names.specs.WordSet.{is_same}
+use Rattle.names.specs.SameWord.{is_same}
 
 -- ---- the words that ask for a pair
 
@@ -56,12 +56,21 @@ words_for packages pair = SetOfAll ∷ words_for_sides pair.sides ++ words_for_l
 
 -- ---- what words were found for
 
-abbrev pub found_for : PairWords → NamedSetOf → Found
-found_for words one = option_map_or (λ found. found) (lookup (λ key. is_same one (named_set_of key)) words.words.entries) Nothing
+-- what was found for a word, where it is one of these
+abbrev pub found_for : AskedWords → NamedSetOf → Option Found
+found_for words one = lookup (λ key. is_same one (named_set_of key)) words.words.entries
 
--- the words that ask for some of these pairs, with the ids of these
-abbrev pub AreWordsFor : List PackageNameOf → List PairOf → PairWords → Type 0
-AreWordsFor packages pairs words = (one : NamedSetOf) → found_for words one ≡ found_of_pairs packages pairs one
+abbrev pub or_nothing : Option Found → Found
+or_nothing found = option_map_or (λ one. one) found Nothing
+
+-- whether a word is one of these
+abbrev pub has_word : AskedWords → NamedSetOf → Bool
+has_word words one = is_some (found_for words one)
+
+-- these words are asked, each with the ids of those pairs for which it asks
+abbrev pub AreAsked : List PackageNameOf → List NamedSetOf → List PairOf → AskedWords → Type 0
+AreAsked packages sets pairs words =
+    (one : NamedSetOf) → found_for words one ≡ (if list_any (is_same one) sets then Some (found_of_pairs packages pairs one) else None)
 
 -- nothing, or a fault
 abbrev pub unless : Option NameFaultOf → Result (Unit {0}) NameFaultOf
@@ -72,6 +81,7 @@ unless None = Ok tt
 abbrev pub asked_in : List PackageNameOf → List NamedSetOf → List PairOf → Result (List Bool) NameFaultOf
 asked_in packages sets pairs = unless (first_fault packages pairs sets) >>= λ _. Ok (map (is_asked packages sets) pairs)
 
--- these words ask for an id too
-pub record PutsFor (words : List NamedSetOf) (id : ResId) (old new : PairWords) : Type 0 where
-  pub put : (one : NamedSetOf) → found_for new one ≡ (if list_any (is_same one) words then also (found_for old one) id else found_for old one)
+-- those of these words that are asked ask for an id too; whether one is asked
+pub record PutsFor (words : List NamedSetOf) (id : ResId) (old new : AskedWords) (asked : Bool) : Type 0 where
+  pub put : (one : NamedSetOf) → found_for new one ≡ option_map (λ found. if list_any (is_same one) words then also found id else found) (found_for old one)
+  pub asks : asked ≡ list_any (has_word old) words

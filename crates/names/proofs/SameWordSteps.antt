@@ -1,17 +1,10 @@
--- Words, one among others.
-use Rattle.std.proofs.Common.{◌≡◌, ℕ, ◌==◌, ◌&&◌, ◌||◌, ◌+◌, ◌<◌, ◌≤◌, Bool, true, false, cond, List, [], ◌∷◌, map, length, drop, get_or, Option, Some, None, refl, sym, ap, ◌∙◌, arith}
-use Rattle.std.proofs.Math.Bool.{or-false, or_assoc}
-use Rattle.std.proofs.Math.Path.{fun_ext}
+-- Whether two words are the same.
+use Rattle.std.proofs.Common.{◌≡◌, ℕ, ◌==◌, ◌&&◌, Bool, true, false, List, Option, Some, None, refl, sym, ap, ◌∙◌, arith}
 use Rattle.std.proofs.lemmas.Bool.{and_parts, eqb-true}
 use Rattle.std.proofs.lemmas.Cmp.{eq_by_cmp_equiv, nat_list_cmp_total}
-use Rattle.std.proofs.lemmas.List.{drop_all}
-use Rattle.std.proofs.lemmas.List.Folds.{list_any-append}
 use Rattle.std.proofs.lemmas.Map.Text.{is_eq-slice_cmp}
 use Rattle.std.proofs.lemmas.Slice.Eq.{bytes_eq-Decides}
-use Rattle.std.specs.BTreeMap.{is_at}
-use Rattle.std.specs.BTreeSet.{contains}
 use Rattle.std.specs.Cmp.Lexicographic.{slice_cmp}
-use Rattle.std.specs.List.{flat_map, list_any}
 use Rattle.std.specs.Option.{option_cmp, option_map}
 use Rattle.std.specs.Ordering.{is_eq, nat_cmp, ordering_then}
 use Rattle.std.specs.Str.{bytes_eq}
@@ -29,9 +22,7 @@ use Rattle.names.specs.declared.package_word.PackageWord.TheVariants as word
 use Rattle.names.specs.Named.{NamedOf, ById, ByName, named_of}
 use Rattle.names.specs.NamedSet.{NamedSetOf, SetOfOne, SetOfType, SetOfAll, named_set_of}
 use Rattle.names.specs.PackageWord.{PackageWordOf, Numbered, Called, package_word_of}
-use Rattle.names.specs.declared.word_set.WordSet.{WordSet}
-use Rattle.names.specs.WordSet.{has_word, is_same, is_same_one, is_same_package, is_same_word, Puts}
-use Rattle.names.proofs.AskedSteps.{split_at}
+use Rattle.names.specs.SameWord.{is_same, is_same_one, is_same_package, is_same_word}
 
 -- ---- the order that the code's words have
 
@@ -159,12 +150,30 @@ is_same-is SetOfAll (SetOfOne b) same = absurd cc
 is_same-is SetOfAll (SetOfType q b) same = absurd cc
 is_same-is SetOfAll SetOfAll same = refl
 
--- ---- looking up a word of the code is looking up what it is
+-- a word is the same as itself
+both : (a b : Bool) → a ≡ true → b ≡ true → (a && b) ≡ true
+both true b a_is b_is = b_is
+both false b a_is b_is = a_is
 
-pub found_as : (set : WordSet) (word : NamedSet) → contains order set.words word ≡ has_word set (named_set_of word)
-found_as set word = ap (λ (test : NamedSet → Bool). list_any test set.words.keys) (fun_ext (λ (key : NamedSet). same_set word key))
+number-itself : (n : ℕ) → (n == n) ≡ true
+number-itself n = grind arith
 
--- a word of the code for a word
+bytes-itself : (a : List ℕ) → bytes_eq a a ≡ true
+bytes-itself a = (bytes_eq-Decides a a).1 refl
+
+package-itself : (a : Option PackageWordOf) → is_same_package a a ≡ true
+package-itself None = refl
+package-itself (Some (Numbered number)) = number-itself number
+package-itself (Some (Called name)) = bytes-itself name
+
+pub is_same-itself : (a : NamedSetOf) → is_same a a ≡ true
+is_same-itself (SetOfOne (ById id)) = number-itself id.0
+is_same-itself (SetOfOne (ByName p a b)) = both _ _ (package-itself p) (both _ _ (bytes-itself a) (bytes-itself b))
+is_same-itself (SetOfType p a) = both _ _ (package-itself p) (bytes-itself a)
+is_same-itself SetOfAll = refl
+
+-- ---- a word of the code for a word
+
 at_package : PackageWordOf → PackageWord
 at_package (Numbered number) = word.Number number
 at_package (Called name) = word.Name (record { ref_ptr = (0, 0); now = name })
@@ -194,69 +203,3 @@ unfolding at_word
 named_set_of-at (SetOfOne a) = ap (λ (one : NamedOf). SetOfOne one) (named_of-at a)
 named_set_of-at (SetOfType p a) = ap (λ (in_package : Option PackageWordOf). SetOfType in_package a) (package_of-at p)
 named_set_of-at SetOfAll = refl
-
-found_at : (set : WordSet) (one : NamedSetOf) → contains order set.words (at_word one) ≡ has_word set one
-found_at set one = found_as set (at_word one) ∙ ap (has_word set) (named_set_of-at one)
-
--- ---- words that were put
-
--- what was put, or was there before
-with_one : (same has : Bool) → cond same true has ≡ (has || (same || false))
-with_one true true = refl
-with_one true false = refl
-with_one false true = refl
-with_one false false = refl
-
-pub Puts-one : (key : NamedSet) (old new : WordSet) → ((q : NamedSet) → contains order new.words q ≡ cond (is_at (order key) q) true (contains order old.words q))
-    → Puts (named_set_of key ∷ []) old new
-Puts-one key old new put = record {
-  put = λ one.
-      let same : is_at (order key) (at_word one) ≡ is_same one (named_set_of key) =
-      same_set key (at_word one) ∙ ap (is_same (named_set_of key)) (named_set_of-at one) ∙ is_same-sym (named_set_of key) one in
-      sym (found_at new one) ∙ put (at_word one)
-      ∙ ap (λ (b : Bool). cond b true (contains order old.words (at_word one))) same
-      ∙ ap (λ (b : Bool). cond (is_same one (named_set_of key)) true b) (found_at old one)
-      ∙ with_one (is_same one (named_set_of key)) (has_word old one);
-}
-
--- ---- a loop
-
--- with the words of the items that are left it has all that are meant
-pub record HasBut {V : Type 0} (words_of : V → List NamedSetOf) (left all : List V) (now : WordSet) : Type 0 where
-  pub others : (one : NamedSetOf) → (has_word now one || list_any (is_same one) (flat_map words_of left)) ≡ list_any (is_same one) (flat_map words_of all)
-
-pub HasBut-none : {V : Type 0} (words_of : V → List NamedSetOf) (all : List V) (none : WordSet) → ((one : NamedSetOf) → has_word none one ≡ false) → HasBut words_of all all none
-HasBut-none {V} words_of all none empty = record { others = λ one. ap (λ (has : Bool). has || list_any (is_same one) (flat_map words_of all)) (empty one) }
-
-pub HasBut-next : {V : Type 0} (words_of : V → List NamedSetOf) (old new : WordSet) (all items : List V) (place : ℕ) (item : V)
-    → HasBut words_of (drop place items) all old → place < length items → item ≡ get_or items place item → Puts (words_of item) old new
-    → HasBut words_of (drop (place + 1) items) all new
-HasBut-next {V} words_of old new all items place item before on is put = record {
-  others = λ one.
-      let others = flat_map words_of (drop (place + 1) items) in
-      ap (λ (has : Bool). has || list_any (is_same one) others) (put.put one)
-      ∙ or_assoc (has_word old one) (list_any (is_same one) (words_of item)) (list_any (is_same one) others)
-      ∙ ap (λ (any : Bool). has_word old one || any) (sym (list_any-append (is_same one) (words_of item) others))
-      ∙ ap (λ (left : List V). has_word old one || list_any (is_same one) (flat_map words_of left)) (sym (split_at items place item on is))
-      ∙ before.others one;
-}
-
-any_of_words : {V A : Type 0} (view : V → A) (words_of : V → List NamedSetOf) (one : NamedSetOf) (test : A → Bool) → ((item : V) → list_any (is_same one) (words_of item) ≡ test (view item))
-    → (items : List V) → list_any (is_same one) (flat_map words_of items) ≡ list_any test (map view items)
-any_of_words view words_of one test is [] = refl
-any_of_words {V} view words_of one test is (item ∷ items) =
-    list_any-append (is_same one) (words_of item) (flat_map words_of items)
-    ∙ ap (λ (any : Bool). any || list_any (is_same one) (flat_map words_of items)) (is item)
-    ∙ ap (λ (any : Bool). test (view item) || any) (any_of_words view words_of one test is items)
-
-pub HasBut-end : {V A : Type 0} (view : V → A) (words_of : V → List NamedSetOf) (test : NamedSetOf → A → Bool) (all : List V) (place : ℕ) (now : WordSet)
-    → HasBut words_of (drop place all) all now → length all ≤ place → ((one : NamedSetOf) (item : V) → list_any (is_same one) (words_of item) ≡ test one (view item))
-    → (one : NamedSetOf) → has_word now one ≡ list_any (test one) (map view all)
-HasBut-end {V} {A} view words_of test all place now before past is = λ one.
-    sym (or-false (has_word now one))
-    ∙ ap (λ (left : List V). has_word now one || list_any (is_same one) (flat_map words_of left)) (sym (drop_all place all past))
-    ∙ before.others one ∙ any_of_words view words_of one (test one) (is one) all
-
--- one word alone
-pub any_of_one : (one : NamedSetOf) (set : NamedSet) → list_any (is_same one) (named_set_of set ∷ []) ≡ is_same one (named_set_of set)
-any_of_one one set = or-false (is_same one (named_set_of set))
