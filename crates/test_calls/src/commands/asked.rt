@@ -35,12 +35,12 @@ pub struct Asked<'w> {
 impl<'w> Asked<'w> {
     /// What these words ask.
     pub fn read(alloc: Global, words: &'w [String]) -> Result<Asked<'w>, Fail> {
-        let trees = Cert::read(alloc, word(words, 3).as_bytes())?.goals;
+        let table = bytes_of(alloc, word(words, 1))?;
         Ok(Asked {
             name: word(words, 0),
-            table: bytes_of(alloc, word(words, 1))?,
+            table,
             of: word(words, 2).as_bytes(),
-            goals: trees.into_iter().map(|tree| tree.goal).collect(alloc)?,
+            goals: goals_in(alloc, word(words, 3))?,
             certificate: word(words, 4).as_bytes(),
             most_nodes: word(words, 5).parse::<u32>().unwrap_or(MOST_NODES),
         })
@@ -71,4 +71,11 @@ impl<'w> Asked<'w> {
             _ => make_bytes(alloc, layers, self.of, goals, self.most_nodes, out),
         }
     }
+}
+
+// The goals of a certificate.
+fn goals_in(alloc: Global, certificate: &str) -> Result<Vec<Goal>, Fail> {
+    let trees = Cert::read(alloc, certificate.as_bytes())?.goals;
+    let goals = trees.into_iter().map(|tree| tree.goal).collect(alloc)?;
+    Ok(goals)
 }

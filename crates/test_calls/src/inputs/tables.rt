@@ -29,9 +29,13 @@ pub fn names(rt: &HostRuntime, word: &str) -> Result<(), Fail> {
 
 /// The spans of a style of a pool, by its index.
 pub fn spans(rt: &HostRuntime, word: &str, index: &str) -> Result<(), Fail> {
-    let bytes = bytes_of(rt.alloc(), word)?;
-    let pool = Pool::open(&chunk_at(&bytes, 0, 8)?)?;
     let index = index.parse::<usize>()?;
+    let bytes = bytes_of(rt.alloc(), word)?;
+    spans_in(rt, &bytes, index)
+}
+
+fn spans_in(rt: &HostRuntime, bytes: &[u8], index: usize) -> Result<(), Fail> {
+    let pool = Pool::open(&chunk_at(bytes, 0, 8)?)?;
     begin(rt);
     match pool.spans(index) {
         Ok(spans) => {

@@ -23,10 +23,24 @@ pub fn whole(rt: &HostRuntime, stack: &Stack<'_>, json: &str) -> Result<(), Fail
 /// The same of those whose locale is de, where others are there too.
 pub fn half(rt: &HostRuntime, stack: &Stack<'_>, json: &str) -> Result<(), Fail> {
     let members = ConfigBox::read(rt.alloc(), json.as_bytes())?;
+    german_half(rt, stack, &members)
+}
+
+fn german_half(rt: &HostRuntime, stack: &Stack<'_>, members: &ConfigBox) -> Result<(), Fail> {
     let languages = vec![in rt.alloc(); Locale::read("de")?]?;
     let is_german = Test::Among(Coord::Locale, Choice::Locales(languages));
-    let whole = Live::new(rt.alloc(), stack, FIRST, &members)?;
-    if let Split::Halves(german, _) = members.split(rt.alloc(), &is_german)? {
+    half_with(rt, stack, members, &is_german)
+}
+
+// Tells the candidates of the members for which the answer is yes.
+fn half_with(
+    rt: &HostRuntime,
+    stack: &Stack<'_>,
+    members: &ConfigBox,
+    test: &Test,
+) -> Result<(), Fail> {
+    let whole = Live::new(rt.alloc(), stack, FIRST, members)?;
+    if let Split::Halves(german, _) = members.split(rt.alloc(), test)? {
         begin(rt);
         let found = whole.half(rt.alloc(), &german);
         end(rt);

@@ -13,8 +13,8 @@ const SECOND: ResId = ResId(0x7f01_0001);
 
 /// Where the goal of a word ends, at the device of these qualifiers.
 pub fn goal(rt: &HostRuntime, stack: &Stack<'_>, asked: &str, device: &str) -> Result<(), Fail> {
-    let goal = Goal::read(rt.alloc(), asked)?;
     let device = device_of(device).ok_or(Malformed)?;
+    let goal = Goal::read(rt.alloc(), asked)?;
     begin(rt);
     let found = goal_end(rt.alloc(), stack, &goal, &device);
     end(rt);
@@ -27,8 +27,8 @@ pub fn goal(rt: &HostRuntime, stack: &Stack<'_>, asked: &str, device: &str) -> R
 
 /// How what entry 1 says differs from what entry 0 says: for each row of a bag that differs a word.
 pub fn difference(rt: &HostRuntime, stack: &Stack<'_>) -> Result<(), Fail> {
-    let named = NamedStack::of(rt.alloc(), stack)?;
     let device = device_of("").ok_or(Malformed)?;
+    let named = NamedStack::of(rt.alloc(), stack)?;
     begin(rt);
     let found = difference_at(rt.alloc(), &named, FIRST, &named, SECOND, &device);
     end(rt);

@@ -22,14 +22,14 @@ pub fn applied(rt: &HostRuntime, stack: &Stack<'_>, first: &str, forced: &str) -
     if !first.is_empty() {
         theme.apply(stack, STYLES[0], true, &device)?;
     }
-    apply(rt, stack, theme, !forced.is_empty(), &device)
+    apply(rt, stack, &mut theme, !forced.is_empty(), &device)
 }
 
 // Applies the second style. Where that is refused, it is applied again.
 fn apply(
     rt: &HostRuntime,
     stack: &Stack<'_>,
-    mut theme: Theme,
+    theme: &mut Theme,
     force: bool,
     device: &Device,
 ) -> Result<(), Fail> {
@@ -38,10 +38,10 @@ fn apply(
     end(rt);
     if let Err(fault) = applied {
         tell(rt, fault);
-        tell_theme(rt, stack, &theme, device);
+        tell_theme(rt, stack, theme, device);
         theme.apply(stack, STYLES[1], force, device)?;
     }
-    tell_theme(rt, stack, &theme, device);
+    tell_theme(rt, stack, theme, device);
     Ok(())
 }
 

@@ -1,6 +1,6 @@
 use Rattle.bags_themes.specs.config_match.Matching.{is_match}
 use Rattle.std.proofs.Common.{true, slice_index_or}
-use Rattle.test_calls.proofs.stacks.boxes.half.Goals as goal
+use Rattle.test_calls.proofs.stacks.boxes.half_with.Goals as goal
 
 -- What is marked matches all members of the box, and so those of its half.
 pub half-found-requires : goal.half-found-requires
