@@ -6,15 +6,6 @@ use Rattle.std.specs.Io.KnownBytes.{Appends}
 use Rattle.std.proofs.KnownBytes.{Appends-nil}
 use Rattle.answer_text.specs.OnLine.{on_line}
 use Rattle.command_base.proofs.answer_text_proofs.LineSteps.{ascii-on_line}
-use Rattle.contract_words.specs.Faults.{◌>>=◌}
-use Rattle.command_base.specs.LayerMark.{layer_mark}
-use Rattle.command_base.specs.LeftOut.{left_by_map}
-use Rattle.command_base.specs.MadeMap.{made_map}
-use Rattle.command_base.specs.MapText.{lines_with}
-use Rattle.command_base.specs.StackBytes.{table_of_layer}
-use Rattle.command_base.specs.declared.fault.ToolFault.{ToolFault}
-use Rattle.command_base.specs.declared.side.Side.{Side}
-use Rattle.command_base.specs.resource_table.Table.{TableOf}
 use Rattle.contract_words.specs.Sequences.{with_front, joined, joined_each, joined_from}
 use Rattle.contract_words.proofs.SequenceSteps.{with_front_nil, joined_from-next, joined_from-stops}
 
@@ -52,14 +43,3 @@ nothing-on_line = sym (ascii-on_line [] (λ _. lit< tt))
 
 pub says-nothing : (known : Option (List ℕ)) (lines : List ℕ) → lines ≡ [] → Appends known known (on_line lines)
 says-nothing known lines none = subst (λ (t : List ℕ). Appends known known t) (sym (ap on_line none ∙ nothing-on_line)) (Appends-nil known)
-
--- ---- the lines of an overlay over its base
-
-abbrev lines_of_both : Option Side → ℕ → Result TableOf ToolFault → Result TableOf ToolFault → Result (List ℕ) ToolFault
-lines_of_both side place target overlay = target >>= λ target. overlay >>= λ overlay. Ok (lines_with (layer_mark side place) overlay (made_map target overlay))
-
-pub left-of_tables : (side : Option Side) (base : ℕ) (target_bytes : List ℕ) (place : ℕ) (bytes : List ℕ) (target overlay : Result TableOf ToolFault)
-    → table_of_layer base target_bytes ≡ target → table_of_layer place bytes ≡ overlay
-    → left_by_map side base target_bytes place bytes ≡ lines_of_both side place target overlay
-unfolding left_by_map
-left-of_tables side base target_bytes place bytes target overlay is are = λ k. lines_of_both side place (is k) (are k)

@@ -14,6 +14,7 @@ pub mod MapReadSteps
 pub mod NamedSteps
 pub mod FileWordsSteps
 pub mod LeftSteps
+pub mod MadeOverSteps
 pub use Rattle.answer_text.proofs as answer_text_proofs
 pub use Rattle.cert_tree.proofs.json_input_proofs
 pub mod StopSteps

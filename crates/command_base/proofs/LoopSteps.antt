@@ -55,6 +55,13 @@ JoinsAllBut-next {A} {B} f made more total left others x before split joined = r
       ∙ before.others;
 }
 
+-- in two steps
+pub JoinsAllBut-both : {A B : Type 0} (f : A → List B) (made mid more total : List B) (left others : List A) (x : A) (first second : List B)
+    → JoinsAllBut f made total left → left ≡ x ∷ others → f x ≡ first ++ second → mid ≡ made ++ first → more ≡ mid ++ second → JoinsAllBut f more total others
+JoinsAllBut-both {A} {B} f made mid more total left others x first second before split both one other =
+    JoinsAllBut-next f made more total left others x before split
+    (other ∙ ap (λ (t : List B). t ++ second) one ∙ append_assoc made first second ∙ ap (λ (t : List B). made ++ t) (sym both))
+
 pub JoinsAllBut-end : {A B : Type 0} (f : A → List B) (made total : List B) (left : List A) → JoinsAllBut f made total left → left ≡ [] → made ≡ total
 JoinsAllBut-end {A} f made total left before nothing =
     sym (append-nil made) ∙ ap (λ (t : List A). made ++ flat_map f t) (sym nothing) ∙ before.others

@@ -3,9 +3,6 @@ use Rattle.std.proofs.Common.{◌≡◌, ℕ, Bool, false, List, length, map, Op
 use Rattle.std.specs.List.{enumerate_from}
 use Rattle.std.specs.Prelude.{if◌then◌else◌}
 use Rattle.apk_member.specs.declared.fault.ApkFault.{ApkFault}
-use Rattle.command_base.specs.MadeMap.{made_map}
-use Rattle.command_base.specs.MapText.{map_text}
-use Rattle.command_base.specs.resource_table.Table.{TableOf}
 use Rattle.config_words.specs.Printed.{is_printed}
 use Rattle.contract_words.specs.Faults.{◌>>=◌}
 use Rattle.json_input.specs.Each.{each}
@@ -15,7 +12,7 @@ use Rattle.command_base.specs.FileWords.{words_at, words_in_place_of, words_of_f
 use Rattle.command_base.specs.Inputs.{Places, file_of, layer_file_of, layer_of, layers_in_file, listed_table_of, made_json, named_layer, or_stop, stop_at, table_at, table_at_place, table_place, table_within, where_given, where_overlay}
 use Rattle.command_base.specs.LayerList.{LayerPaths, layers_in}
 use Rattle.command_base.specs.ListWord.{ListedLayer}
-use Rattle.command_base.specs.StackBytes.{LayerBytes, table_of_layer}
+use Rattle.command_base.specs.StackBytes.{LayerBytes}
 use Rattle.command_base.specs.Stop.{StopOf, file, tool}
 use Rattle.command_base.specs.ToolFault.{fault_of_layers}
 use Rattle.command_base.specs.declared.fault.ToolFault.{ToolFault}
@@ -106,16 +103,6 @@ of-named_map places before layer place base path table target made at names is o
     ∙ ap (λ (base : Option ℕ). with_map table (where_overlay over_base base)) over
     ∙ ap (λ (made : Result (List ℕ) ToolFault). with_map table (some_of (as_stop made)))
     (sym (ap (λ (target : List ℕ). made_json base target place table) of_base ∙ ap (λ (place : ℕ). made_json base (table_at_place before base) place table) at) ∙ are)
-
--- ---- a map that is made
-
-abbrev json_with : Result TableOf ToolFault → Result TableOf ToolFault → Result (List ℕ) ToolFault
-json_with target overlay = target >>= λ target. overlay >>= λ overlay. Ok (map_text (made_map target overlay))
-
-pub json-of_tables : (base : ℕ) (target_bytes : List ℕ) (place : ℕ) (bytes : List ℕ) (target overlay : Result TableOf ToolFault)
-    → table_of_layer base target_bytes ≡ target → table_of_layer place bytes ≡ overlay → made_json base target_bytes place bytes ≡ json_with target overlay
-unfolding made_json
-json-of_tables base target_bytes place bytes target overlay is are = λ k. json_with (is k) (are k)
 
 -- ---- all layers of a list in a file
 

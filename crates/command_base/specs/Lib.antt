@@ -11,6 +11,7 @@ pub mod FirstRowsSeen
 pub mod MadeMap
 pub mod LeftOut
 pub mod MapText
+pub mod MadeOver
 pub mod MappedIdsSeen
 pub mod PairSeen
 pub mod NamedTarget

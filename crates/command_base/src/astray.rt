@@ -3,15 +3,14 @@
 ghost use Rattle.std.specs.Prelude.{◌≡◌, ◌++◌, map, IfOk, OnOk};
 ghost use Rattle.std.specs.List.{flat_map};
 ghost use Rattle.command_base.specs.overlay_map.IdMap.{pairs_of};
-ghost use Rattle.command_base.specs.answer_text.res_value.Cell.{cell_of};
 ghost use Rattle.command_base.specs.answer_text.res_value.MapRows.{map_rows_of};
 ghost use Rattle.command_base.specs.answer_text.type_chunks.Row.{row_of};
-ghost use Rattle.command_base.specs.MadeMap.{astray_to, astray_by, astray_by_bag_row, astray_by_cell, astray_in, astray};
+ghost use Rattle.command_base.specs.MadeMap.{astray_to, astray_by, astray_by_bag_row, astray_in, astray};
 ghost use Rattle.command_base.specs.AstraySeen.{astray_of, map_of, overlay_of};
 
 use crate::first_rows::FirstRows;
 use crate::mapped_ids::MappedIds;
-use answer_text::{Cell, MapRows, ResId, Row, Table, Value, kind};
+use answer_text::{Cell, MapRows, ResId, Row, Value, kind};
 use std::alloc::{AllocError, Global};
 
 /// A row of an overlay that refers to an id of the overlay which the map does not keep.
@@ -25,16 +24,14 @@ pub(crate) struct Astray<'a> {
 /// The references of an overlay that go astray, in the order of the file.
 pub(crate) fn astray_references<'a>(
     alloc: Global,
-    overlay: &Table<'a>,
     first: &FirstRows<'_, 'a>,
     mapped: &MappedIds<'_>,
 ) -> Result<Vec<Astray<'a>>, AllocError>
-    requires { first.now.table.now ≡ overlay.now }
-    ensures { IfOk result (λ found. map astray_of found.items ≡ astray overlay.now (pairs_of mapped.now.pairs.now)) }
+    ensures { IfOk result (λ found. map astray_of found.items ≡ astray first.now.table.now (pairs_of mapped.now.pairs.now)) }
 {
     let search = AstraySearch { first, mapped };
     let mut found = Vec::new(alloc);
-    for row in overlay.all_rows() {
+    for row in first.table.all_rows() {
         search.push_row(&row, &mut found)?;
     }
     Ok(found)
@@ -49,7 +46,7 @@ struct AstraySearch<'s, 'p, 't, 'a> {
 
 impl<'s, 'p, 't, 'a> AstraySearch<'s, 'p, 't, 'a> {
     // Those of a row, if its id stands for some target.
-    #[tactic(auto, unfolding(crate::specs::MadeMap::astray_in))]
+    #[tactic(auto, unfolding(crate::specs::MadeMap::astray_in, crate::specs::MadeMap::astray_by_cell))]
     fn push_row(&self, row: &Row<'a>, found: &mut Vec<Astray<'a>>) -> Result<(), AllocError>
         ensures { OnOk result (map astray_of found.new.items
             ≡ map astray_of found.old.items ++ astray_in (overlay_of self.now) (map_of self.now) (row_of row.now)) }
@@ -57,20 +54,7 @@ impl<'s, 'p, 't, 'a> AstraySearch<'s, 'p, 't, 'a> {
         if !self.mapped.carries(row.id) {
             return Ok(());
         }
-        self.push_cell(row, row.cell, found)
-    }
-
-    #[tactic(auto, unfolding(crate::specs::MadeMap::astray_by_cell))]
-    fn push_cell(
-        &self,
-        row: &Row<'a>,
-        cell: Cell<'a>,
-        found: &mut Vec<Astray<'a>>,
-    ) -> Result<(), AllocError>
-        ensures { OnOk result (map astray_of found.new.items
-            ≡ map astray_of found.old.items ++ astray_by_cell (overlay_of self.now) (map_of self.now) (row_of row.now) (cell_of cell.entry)) }
-    {
-        match cell {
+        match row.cell {
             Cell::Plain(value) => self.push_value(row, value, found),
             Cell::Bag { parent, rows } => {
                 self.push_id(row, parent, found)?;
@@ -79,6 +63,7 @@ impl<'s, 'p, 't, 'a> AstraySearch<'s, 'p, 't, 'a> {
         }
     }
 
+    // Those of the rows of its bag.
     fn push_bag_rows(
         &self,
         row: &Row<'a>,
@@ -89,24 +74,10 @@ impl<'s, 'p, 't, 'a> AstraySearch<'s, 'p, 't, 'a> {
             ≡ map astray_of found.old.items ++ flat_map (astray_by_bag_row (overlay_of self.now) (map_of self.now) (row_of row.now)) (map_rows_of bag_rows.entry)) }
     {
         for (name, value) in bag_rows {
-            self.push_bag_row(row, name, value, found)?;
+            self.push_id(row, name, found)?;
+            self.push_value(row, value, found)?;
         }
         Ok(())
-    }
-
-    #[tactic(auto, unfolding(crate::specs::MadeMap::astray_by_bag_row))]
-    fn push_bag_row(
-        &self,
-        row: &Row<'a>,
-        name: ResId,
-        value: Value,
-        found: &mut Vec<Astray<'a>>,
-    ) -> Result<(), AllocError>
-        ensures { OnOk result (map astray_of found.new.items
-            ≡ map astray_of found.old.items ++ astray_by_bag_row (overlay_of self.now) (map_of self.now) (row_of row.now) (name, value)) }
-    {
-        self.push_id(row, name, found)?;
-        self.push_value(row, value, found)
     }
 
     // What a value refers to, if it goes astray.

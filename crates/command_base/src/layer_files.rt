@@ -6,20 +6,16 @@ ghost use Rattle.json_input.specs.Each.{each};
 ghost use Rattle.command_base.specs.LayerListSeen.{paths_of, all_paths_of};
 ghost use Rattle.command_base.specs.StackBytesSeen.{layer_bytes};
 ghost use Rattle.command_base.specs.Stop.{GivesOrStops};
-ghost use Rattle.command_base.specs.contract_words.Exact.{GivesOr};
-ghost use Rattle.command_base.specs.declared.fault.ToolFault.TheVariants.{OutOfMemory};
-ghost use Rattle.command_base.specs.Inputs.{file_of, layer_of, layers_in_file, layers_named, layers_of, layers_on_side, made_json, named_layer, named_layers, paths_in_json, paths_in_word, paths_of_layers, table_at_place};
+ghost use Rattle.command_base.specs.Inputs.{file_of, layer_of, layers_in_file, layers_named, layers_of, layers_on_side, named_layer, named_layers, paths_in_json, paths_in_word, paths_of_layers, table_at_place};
 ghost use Rattle.command_base.specs.ListWordSeen.{listed_of};
-ghost use Rattle.command_base.specs.FilesSeen.{bytes_of, layer_held, all_held, layers_held, paths_held};
+ghost use Rattle.command_base.specs.FilesSeen.{layer_held, all_held, layers_held, paths_held};
 
-use crate::fault::ToolFault;
 use crate::inputs::{Inputs, file_bytes, layer_file_bytes, listed_table_file};
 use crate::layer_list::{LayerList, check_count};
 use crate::layer_parts::LayerParts;
 use crate::list_word::{ListedLayer, is_list_word, layers_in_word};
 use crate::made_map::MadeMap;
 use crate::side::Side;
-use crate::stack::open_table;
 use crate::stop::Stop;
 use apk_member::TableFile;
 use std::alloc::{AllocError, Global};
@@ -183,7 +179,8 @@ fn read_named_layer<I: Inputs>(
     match layer.base {
         Some(base) => {
             let target = table_at_place(before, base);
-            let map = Some(made_json(alloc, base, target, place, table.table())?);
+            let made = MadeMap::over(alloc, b"", base, target, place, table.table())?;
+            let map = Some(made.json);
             Ok(LayerBytes { table, map })
         }
         None => Ok(LayerBytes { table, map: None }),
@@ -198,23 +195,6 @@ fn table_at_place(layers: &[LayerBytes], place: usize) -> &[u8]
         Some(layer) => layer.table.table(),
         None => &[],
     }
-}
-
-// The text of the id map that is made of an overlay over the base at a place.
-#[tactic(auto, unfolding(crate::specs::Inputs::made_json))]
-fn made_json(
-    alloc: Global,
-    base: usize,
-    target: &[u8],
-    place: usize,
-    overlay: &[u8],
-) -> Result<Vec<u8>, ToolFault>
-    ensures { GivesOr OutOfMemory bytes_of result (made_json base target.now place overlay.now) }
-{
-    let target = open_table(alloc, base, target)?;
-    let overlay = open_table(alloc, place, overlay)?;
-    let made = MadeMap::of(alloc, &target, &overlay)?;
-    Ok(made.json)
 }
 
 fn read_each_layer<I: Inputs>(

@@ -20,7 +20,6 @@ use crate::layer_parts::LayerParts;
 use crate::list_word::{ListedLayer, is_list_word, layers_in_word};
 use crate::made_map::MadeMap;
 use crate::side::Side;
-use crate::stack::open_table;
 use answer_text::write_on_line;
 use std::alloc::{AllocError, Global};
 use std::io::{self, Write};
@@ -129,7 +128,6 @@ fn table_at_place<'a>(layers: &[LayerParts<&'a [u8]>], place: usize) -> &'a [u8]
 }
 
 // The lines of an overlay over its base, which stand at these places.
-#[tactic(auto, unfolding(crate::specs::LeftOut::left_by_map))]
 fn left_by_map(
     alloc: Global,
     side: Option<Side>,
@@ -140,10 +138,8 @@ fn left_by_map(
 ) -> Result<Vec<u8>, ToolFault>
     ensures { GivesOr OutOfMemory bytes_of result (left_by_map side base target.now place overlay.now) }
 {
-    let target = open_table(alloc, base, target)?;
-    let overlay = open_table(alloc, place, overlay)?;
     let mark = layer_mark(alloc, side, place)?;
-    let made = MadeMap::with_lines(alloc, &mark, &target, &overlay)?;
+    let made = MadeMap::over(alloc, &mark, base, target, place, overlay)?;
     Ok(made.left)
 }
 

@@ -94,4 +94,4 @@ pub use set_aside::rows_set_aside;
 pub use side::Side;
 pub use stack::{open_side, open_stack, open_table};
 pub use status::Status;
-pub use stop::Stop;
+pub use stop::{Stop, status_or_stop};

@@ -2,18 +2,23 @@
 
 ghost use Rattle.std.specs.Prelude.{◌≡◌, map, IfOk};
 ghost use Rattle.std.specs.List.{All};
+ghost use Rattle.contract_words.specs.Exact.{GivesOr};
 ghost use Rattle.command_base.specs.answer_text.type_chunks.Row.{row_of};
 ghost use Rattle.command_base.specs.overlay_map.IdMap.{pairs_of};
 ghost use Rattle.command_base.specs.AstraySeen.{astray_of};
+ghost use Rattle.command_base.specs.declared.fault.ToolFault.TheVariants.{OutOfMemory};
 ghost use Rattle.command_base.specs.MadeMap.{made_map};
+ghost use Rattle.command_base.specs.MadeOver.{made_of, made_over};
 ghost use Rattle.command_base.specs.MapText.{ReadsBack, is_whole, left_lines, lines_of_left, lines_with, map_text};
 ghost use Rattle.command_base.specs.PairSeen.{IdsReadBack};
 
 use crate::astray::{Astray, astray_references};
+use crate::fault::ToolFault;
 use crate::first_rows::FirstRows;
 use crate::map_text::{write_left, write_map};
 use crate::mapped_ids::MappedIds;
 use crate::pairs::made_pairs;
+use crate::stack::open_table;
 use crate::unmapped::unmapped_rows;
 use answer_text::{ResId, Row, Table};
 use std::alloc::{AllocError, Global};
@@ -40,8 +45,26 @@ impl MadeMap {
         MadeMap::with_lines(alloc, b"", target, overlay)
     }
 
-    /// The same, with something before each line.
-    pub(crate) fn with_lines(
+    /// The same of an overlay over its base, which stand at these places, from the bytes of their tables, with something before
+    /// each line.
+    pub(crate) fn over(
+        alloc: Global,
+        before: &[u8],
+        base: usize,
+        target: &[u8],
+        place: usize,
+        overlay: &[u8],
+    ) -> Result<MadeMap, ToolFault>
+        ensures { GivesOr OutOfMemory made_of result (made_over before.now base target.now place overlay.now) }
+    {
+        let target = open_table(alloc, base, target)?;
+        let overlay = open_table(alloc, place, overlay)?;
+        let made = MadeMap::with_lines(alloc, before, &target, &overlay)?;
+        Ok(made)
+    }
+
+    // The same of tables that are open.
+    fn with_lines(
         alloc: Global,
         before: &[u8],
         target: &Table<'_>,
@@ -81,23 +104,21 @@ fn left_of(
 {
     let first = FirstRows::new(alloc, overlay)?;
     let mapped = MappedIds::new(alloc, pairs)?;
-    left_among(alloc, before, overlay, &first, &mapped)
+    left_among(alloc, before, &first, &mapped)
 }
 
-fn left_among<'a>(
+fn left_among(
     alloc: Global,
     before: &[u8],
-    overlay: &Table<'a>,
-    first: &FirstRows<'_, 'a>,
+    first: &FirstRows<'_, '_>,
     mapped: &MappedIds<'_>,
 ) -> Result<Left, AllocError>
-    requires { first.now.table.now ≡ overlay.now }
-    ensures { IfOk result (λ left. (left.lines.items ≡ lines_with before.now overlay.now (pairs_of mapped.now.pairs.now))
-        × (left.is_none ≡ is_whole overlay.now (pairs_of mapped.now.pairs.now))) }
+    ensures { IfOk result (λ left. (left.lines.items ≡ lines_with before.now first.now.table.now (pairs_of mapped.now.pairs.now))
+        × (left.is_none ≡ is_whole first.now.table.now (pairs_of mapped.now.pairs.now))) }
 {
     let unmapped = unmapped_rows(alloc, first, mapped)?;
-    let astray = astray_references(alloc, overlay, first, mapped)?;
-    let lines = left_text(alloc, before, overlay, &unmapped, &astray)?;
+    let astray = astray_references(alloc, first, mapped)?;
+    let lines = left_text(alloc, before, first.table, &unmapped, &astray)?;
     Ok(Left {
         lines,
         is_none: unmapped.is_empty() && astray.is_empty(),

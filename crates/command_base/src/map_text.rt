@@ -52,6 +52,7 @@ fn write_pair<W: Write + Drop>(before: &[u8], pair: (ResId, ResId), out: &mut W)
 
 /// Writes a line for each row of an overlay that stands for no target, and one for each reference that goes astray, and
 /// something before each line.
+#[tactic(auto, using(contract_words::proofs::TextSteps::puts_slice))]
 pub(crate) fn write_left<W: Write + Drop>(
     before: &[u8],
     overlay: &Table<'_>,
@@ -62,27 +63,17 @@ pub(crate) fn write_left<W: Write + Drop>(
     ensures { Writes W.contents out.old out.new result
         (left_lines before.now overlay.now (map row_of unmapped.now) (map astray_of astray.now)) }
 {
-    write_unmapped(before, overlay, unmapped, out)?;
-    write_astray(before, overlay, astray, out)
-}
-
-#[tactic(auto, using(contract_words::proofs::TextSteps::puts_slice))]
-fn write_unmapped<W: Write + Drop>(
-    before: &[u8],
-    overlay: &Table<'_>,
-    rows: &[Row<'_>],
-    out: &mut W,
-) -> io::Result<()>
-    ensures { Writes W.contents out.old out.new result (flat_map (unmapped_line before.now overlay.now) (map row_of rows.now)) }
-{
-    for row in rows {
-        write_unmapped_line(before, overlay, row, out)?;
+    for row in unmapped {
+        write_unmapped(before, overlay, row, out)?;
+    }
+    for found in astray {
+        write_astray(before, overlay, found, out)?;
     }
     Ok(())
 }
 
 #[tactic(auto, unfolding(crate::specs::MapText::unmapped_line))]
-fn write_unmapped_line<W: Write + Drop>(
+fn write_unmapped<W: Write + Drop>(
     before: &[u8],
     overlay: &Table<'_>,
     row: &Row<'_>,
@@ -96,23 +87,8 @@ fn write_unmapped_line<W: Write + Drop>(
     out.write_all(b"\n")
 }
 
-#[tactic(auto, using(contract_words::proofs::TextSteps::puts_slice))]
-fn write_astray<W: Write + Drop>(
-    before: &[u8],
-    overlay: &Table<'_>,
-    astray: &[Astray<'_>],
-    out: &mut W,
-) -> io::Result<()>
-    ensures { Writes W.contents out.old out.new result (flat_map (astray_line before.now overlay.now) (map astray_of astray.now)) }
-{
-    for found in astray {
-        write_astray_line(before, overlay, found, out)?;
-    }
-    Ok(())
-}
-
 #[tactic(auto, unfolding(crate::specs::MapText::astray_line))]
-fn write_astray_line<W: Write + Drop>(
+fn write_astray<W: Write + Drop>(
     before: &[u8],
     overlay: &Table<'_>,
     found: &Astray<'_>,

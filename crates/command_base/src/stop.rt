@@ -1,6 +1,6 @@
 //! Why a command stops, and what is said then.
 
-ghost use Rattle.std.specs.Prelude.{◌≡◌, ◌++◌, ◌∷◌, [], codes};
+ghost use Rattle.std.specs.Prelude.{◌≡◌, ◌++◌, ◌∷◌, [], codes, Ok, Err, MatchResult};
 ghost use Rattle.contract_words.specs.Writes.{Writes};
 ghost use Rattle.command_base.specs.declared.fault.ToolFault.TheVariants.{OutOfMemory};
 ghost use Rattle.command_base.specs.declared.stop.Stop.TheVariants.{Tool};
@@ -11,6 +11,7 @@ use crate::fault::{ToolFault, fault_text};
 use crate::layers_fault::LayersFault;
 use crate::one_line::write_in_one_line;
 use crate::side::Side;
+use crate::status::Status;
 use cert_tree::Coord;
 use names::NameFault;
 use std::alloc::{AllocError, AllocFailed};
@@ -62,13 +63,25 @@ impl Stop<'_> {
         match self {
             Stop::NotText => errors.write_all(b"command: a word is not UTF-8\n"),
             Stop::NoWords(path) => write_line("command: no words in ", path, errors),
-            Stop::WordOfFile(word) => write_shown("command: bad id ", word.as_bytes(), errors),
+            Stop::WordOfFile(word) => write_line_of_input(
+                "command: bad id ",
+                word.as_bytes(),
+                errors,
+            ),
             Stop::File(path) => write_line("file: ", path, errors),
-            Stop::LayerFile(path) => write_shown("file: ", path.as_bytes(), errors),
-            Stop::NoResource(name) => write_shown("no resource ", name.as_bytes(), errors),
-            Stop::DevicePart(part) => write_shown("refused: device: Qualifier ", part, errors),
+            Stop::LayerFile(path) => write_line_of_input("file: ", path.as_bytes(), errors),
+            Stop::NoResource(name) => write_line_of_input("no resource ", name.as_bytes(), errors),
+            Stop::DevicePart(part) => write_line_of_input(
+                "refused: device: Qualifier ",
+                part,
+                errors,
+            ),
             Stop::NoWord(coord) => write_line("no word ", coord.name(), errors),
-            Stop::TwoResources(names) => write_shown("two resources ", names.as_bytes(), errors),
+            Stop::TwoResources(names) => write_line_of_input(
+                "two resources ",
+                names.as_bytes(),
+                errors,
+            ),
             Stop::Tool(fault) => fault_text(fault, errors),
         }
     }
@@ -95,13 +108,20 @@ fn write_line<E: Write + Drop>(before: &str, text: &str, errors: &mut E) -> io::
     errors.write_all(b"\n")
 }
 
-// The same of a text that a file or a device may have.
-fn write_shown<E: Write + Drop>(before: &str, text: &[u8], errors: &mut E) -> io::Result<()>
+// The same of a text that an input has: as strings are shown, where it could forge a line.
+fn write_line_of_input<E: Write + Drop>(before: &str, text: &[u8], errors: &mut E) -> io::Result<()>
     ensures { Writes E.contents errors.old errors.new result (before.now ++ in_one_line text.now ++ 10 ∷ []) }
 {
     errors.write_all(before.as_bytes())?;
     write_in_one_line(text, errors)?;
     errors.write_all(b"\n")
+}
+
+/// How a command ends, by what it did with all that was opened for it: its status, or its fault as why it stops.
+pub fn status_or_stop(done: Result<Status, ToolFault>) -> Result<Status, Stop<'static>>
+    ensures { MatchResult done (λ status. result ≡ Ok status) (λ fault. result ≡ Err (Tool fault)) }
+{
+    Ok(done?)
 }
 
 impl From<ToolFault> for Stop<'_> {

@@ -7,4 +7,4 @@ use Rattle.command_base.proofs.astray.astray_references.Given as goal
 -- those of all rows were found but of the rows that are left
 abbrev pub invariant-loop-row : goal.invariant-loop-row
 invariant-loop-row l =
-    JoinsAllBut (astray_in (overlay_of l.search) (map_of l.search)) (map astray_of l.found.items) (astray l.overlay (map_of l.search)) l.row-iterator
+    JoinsAllBut (astray_in (overlay_of l.search) (map_of l.search)) (map astray_of l.found.items) (astray l.first.table.now (map_of l.search)) l.row-iterator

@@ -3,7 +3,6 @@ use Rattle.std.specs.Prelude.{◌==◌, ◌&&◌}
 use Rattle.std.proofs.lemmas.List.{length-map}
 use Rattle.command_base.specs.overlay_map.IdMap.{pairs_of}
 use Rattle.command_base.specs.answer_text.type_chunks.Row.{RowOf, row_of}
-use Rattle.command_base.specs.answer_text.resource_table.Table.{TableOf}
 use Rattle.command_base.specs.MadeMap.{AstrayOf, astray, unmapped}
 use Rattle.command_base.specs.AstraySeen.{astray_of}
 use Rattle.command_base.proofs.made_map.left_among.Goals.{then-is_empty, else-is_empty}
@@ -12,11 +11,10 @@ use Rattle.command_base.proofs.made_map.left_among.Goals as goal
 pub returns : goal.returns
 returns c =
     let pairs = pairs_of c.args.mapped.now.pairs.now in
-    let overlay = c.args.overlay.now in
+    let overlay = c.args.first.now.table.now in
     let rows = c.in_ok-unmapped.unmapped in
     let found = c.in_ok-astray.astray in
-    let of_overlay = c.in_ok-unmapped.ensures ∙ ap (λ (table : TableOf). unmapped table pairs) c.requires in
-    let left : vec_len rows ≡ length (unmapped overlay pairs) = omega (arith, ap (λ (t : List RowOf). length t) of_overlay, length-map rows.items row_of, rows.ok) in
+    let left : vec_len rows ≡ length (unmapped overlay pairs) = omega (arith, ap (λ (t : List RowOf). length t) c.in_ok-unmapped.ensures, length-map rows.items row_of, rows.ok) in
     let gone : vec_len found ≡ length (astray overlay pairs) = omega (arith, ap (λ (t : List AstrayOf). length t) c.in_ok-astray.ensures, length-map found.items astray_of, found.ok) in
     let none = c.is_empty.ensures ∙ ap (λ (count : ℕ). count == 0) left in (
       search rules,

@@ -5,4 +5,4 @@ returns-in-NotText g c = rw c.in-NotText.is c.write_all.ensures.bytes
 
 pub returns-in-TwoResources : goal.returns-in-TwoResources
 returns-in-TwoResources g c =
-    rw c.in-TwoResources.is (rw c.as_bytes-in-TwoResources.ensures.value at c.write_shown-in-TwoResources.ensures)
+    rw c.in-TwoResources.is (rw c.as_bytes-in-TwoResources.ensures.value at c.write_line_of_input-in-TwoResources.ensures)

@@ -1,6 +1,6 @@
 use Rattle.std.proofs.lemmas.Result.{on_ok_weaker}
 use Rattle.std.proofs.KnownBytes.{Appends-trans}
-use Rattle.command_base.proofs.stop.write_shown.Goals as goal
+use Rattle.command_base.proofs.stop.write_line_of_input.Goals as goal
 
 pub returns : goal.returns
 returns g c =
