@@ -105,7 +105,7 @@ impl<'s, 'a, 'n> Finder<'s, 'a, 'n> {
         match set {
             NamedSet::One(named) => {
                 let id = self.id(alloc, named)?;
-                let ids = only(alloc, id)?;
+                let ids = list_of_one(alloc, id)?;
                 Ok(ids)
             }
             NamedSet::OfType { package, type_name } => {
@@ -157,8 +157,7 @@ impl<'s, 'a, 'n> Finder<'s, 'a, 'n> {
     }
 }
 
-// An id alone.
-fn only(alloc: Global, id: ResId) -> Result<Rc<Vec<ResId>>, AllocError>
+fn list_of_one(alloc: Global, id: ResId) -> Result<Rc<Vec<ResId>>, AllocError>
     ensures { IfOk result (λ ids. ids.value.items ≡ id ∷ []) }
 {
     let ids = vec![in alloc; id]?;

@@ -47,13 +47,18 @@ pub(crate) fn has_colon(text: &str) -> bool
 pub(crate) fn is_part(text: &str) -> bool
     ensures { result ≡ is_part text.now }
 {
-    !text.is_empty() && !has_byte_of_no_name(text)
+    !text.is_empty() && !has_byte_of_no_name(text.as_bytes())
 }
 
-fn has_byte_of_no_name(text: &str) -> bool
+fn has_byte_of_no_name(text: &[u8]) -> bool
     ensures { result ≡ list_any is_of_no_name text.now }
 {
-    text.as_bytes().iter().any(|b| is_of_no_name(*b))
+    'bytes: for byte in text {
+        if is_of_no_name(*byte) {
+            return true;
+        }
+    }
+    false
 }
 
 fn is_of_no_name(byte: u8) -> bool

@@ -100,7 +100,7 @@ impl PackageName<'_> {
     }
 }
 
-// Pushes those of tables behind others.
+// Pushes the packages of tables behind others.
 fn push_packages_in<'a>(
     alloc: Global,
     tables: &[&Table<'a>],

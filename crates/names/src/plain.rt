@@ -18,7 +18,12 @@ pub(crate) fn is_plain(name: &str) -> bool
 fn has_misread(name: &[u8]) -> bool
     ensures { result ≡ list_any is_misread name.now }
 {
-    name.iter().any(|byte| is_misread(*byte))
+    'bytes: for byte in name {
+        if is_misread(*byte) {
+            return true;
+        }
+    }
+    false
 }
 
 #[tactic(auto, unfolding(crate::specs::Plain::is_misread))]
