@@ -1,4 +1,3 @@
-pub mod TypeNameSteps
 pub mod ItemSteps
 pub mod LineSteps
 pub mod Cited

@@ -10,7 +10,6 @@ pub mod EndText
 pub mod QueryText
 pub mod ExplainText
 pub mod Line
-pub mod LastTypeName
 pub mod Unfolded
 pub mod InOrder
 pub mod Content

@@ -1,2 +1,2 @@
 -- Definitions of the crates below that functions of this crate unfold.
-unfoldable pub use Rattle.bags_themes.specs.reference_resolver.Selection.{selected}
+unfoldable pub use Rattle.bags_themes.specs.string_pool.Shown.{string_text}

@@ -10,7 +10,7 @@ ghost use Rattle.bags_themes.specs.type_chunks.Row.{row_of};
 ghost use Rattle.answer_text.specs.CellText.{format_of, string_behind, value_with_string, bag_text, cell_text, map_row_text, map_rows_text, row_end_text};
 
 use crate::last_record::LastRecord;
-use crate::named::write_named_id;
+use crate::named::{write_named_id, write_named_number};
 use bags_themes::{Cell, MapRows, Pool, ResId, Row, Value, kind};
 use res_value::{write_id, write_value};
 use std::io::{self, Write};
@@ -89,9 +89,8 @@ fn write_string_behind<W: Write + Drop>(
 fn write_bag<W: Write + Drop>(parent: ResId, count: usize, out: &mut W) -> io::Result<()>
     ensures { Writes W.contents out.old out.new result (bag_text parent.0 count) }
 {
-    out.write_all(b"bag ")?;
-    write_named_id("parent", parent, out)?;
-    write!(out, " count {count}")
+    write_named_id("bag parent", parent, out)?;
+    write_named_number(" count", count as u128, out)
 }
 
 #[tactic(auto, unfolding(crate::specs::CellText::map_rows_text))]

@@ -4,7 +4,6 @@ ghost use Rattle.std.specs.List.{flat_map};
 ghost use Rattle.contract_words.specs.Writes.{Writes};
 ghost use Rattle.bags_themes.specs.type_chunks.Row.{row_of};
 ghost use Rattle.bags_themes.specs.resource_table.Package.{package_of};
-ghost use Rattle.answer_text.specs.LastTypeName.{KeepsNameIn};
 ghost use Rattle.answer_text.specs.DumpText.{package_line, names_text, flags_text, row_text, package_text, dump_text};
 
 use crate::cell::{RowFormat, write_row_end};
@@ -34,15 +33,13 @@ pub fn dump_text<W: Write + Drop>(table: &Table<'_>, out: &mut W) -> io::Result<
 
 #[tactic(auto, unfolding(crate::specs::DumpText::package_text))]
 fn write_package<'a, W: Write + Drop>(
-    table: &Table<'_>,
+    table: &Table<'a>,
     owner: &Package<'a>,
     records: &mut LastRecord<'a>,
-    type_name: &mut LastTypeName,
+    type_name: &mut LastTypeName<'a>,
     out: &mut W,
 ) -> io::Result<()>
-    requires { KeepsNameIn table.now type_name.old }
-    ensures text { Writes W.contents out.old out.new result (package_text table.now (package_of owner.now)) }
-    ensures keeps { KeepsNameIn table.now type_name.new }
+    ensures { Writes W.contents out.old out.new result (package_text table.now (package_of owner.now)) }
 {
     write_package_line(owner, out)?;
     write_rows(table, owner.rows(), records, type_name, out)
@@ -62,15 +59,13 @@ pub fn write_package_line<W: Write + Drop>(owner: &Package<'_>, out: &mut W) -> 
 
 #[tactic(auto, using(contract_words::proofs::TextSteps::puts))]
 fn write_rows<'a, W: Write + Drop>(
-    table: &Table<'_>,
+    table: &Table<'a>,
     rows: PackageRows<'_, 'a>,
     records: &mut LastRecord<'a>,
-    type_name: &mut LastTypeName,
+    type_name: &mut LastTypeName<'a>,
     out: &mut W,
 ) -> io::Result<()>
-    requires { KeepsNameIn table.now type_name.old }
-    ensures text { Writes W.contents out.old out.new result (flat_map (row_text table.now) rows.entry) }
-    ensures keeps { KeepsNameIn table.now type_name.new }
+    ensures { Writes W.contents out.old out.new result (flat_map (row_text table.now) rows.entry) }
 {
     let mut line = Line::new();
     for row in rows {
@@ -82,16 +77,14 @@ fn write_rows<'a, W: Write + Drop>(
 // Writes a row and its bag. What is short is put together in `line` first, since a writer takes one piece faster
 // than many.
 fn write_in_one_piece<'a, W: Write + Drop>(
-    table: &Table<'_>,
+    table: &Table<'a>,
     row: &Row<'a>,
     records: &mut LastRecord<'a>,
-    type_name: &mut LastTypeName,
+    type_name: &mut LastTypeName<'a>,
     line: &mut Line,
     out: &mut W,
 ) -> io::Result<()>
-    requires { KeepsNameIn table.now type_name.old }
-    ensures text { Writes W.contents out.old out.new result (row_text table.now (row_of row.now)) }
-    ensures keeps { KeepsNameIn table.now type_name.new }
+    ensures { Writes W.contents out.old out.new result (row_text table.now (row_of row.now)) }
 {
     line.clear();
     match write_row(table, row, records, type_name, line) {
@@ -102,15 +95,13 @@ fn write_in_one_piece<'a, W: Write + Drop>(
 
 #[tactic(auto, unfolding(crate::specs::DumpText::row_text, crate::specs::DumpText::dump_format))]
 fn write_row<'a, W: Write + Drop>(
-    table: &Table<'_>,
+    table: &Table<'a>,
     row: &Row<'a>,
     records: &mut LastRecord<'a>,
-    type_name: &mut LastTypeName,
+    type_name: &mut LastTypeName<'a>,
     out: &mut W,
 ) -> io::Result<()>
-    requires { KeepsNameIn table.now type_name.old }
-    ensures text { Writes W.contents out.old out.new result (row_text table.now (row_of row.now)) }
-    ensures keeps { KeepsNameIn table.now type_name.new }
+    ensures { Writes W.contents out.old out.new result (row_text table.now (row_of row.now)) }
 {
     let format = RowFormat {
         indent: "    ",
@@ -135,17 +126,15 @@ pub fn write_flags<W: Write + Drop>(flags: u32, out: &mut W) -> io::Result<()>
 }
 
 #[tactic(auto, unfolding(crate::specs::DumpText::names_text))]
-fn write_names<W: Write + Drop>(
-    table: &Table<'_>,
+fn write_names<'a, W: Write + Drop>(
+    table: &Table<'a>,
     row: &Row<'_>,
-    type_name: &mut LastTypeName,
+    type_name: &mut LastTypeName<'a>,
     out: &mut W,
 ) -> io::Result<()>
-    requires { KeepsNameIn table.now type_name.old }
-    ensures text { Writes W.contents out.old out.new result (names_text table.now (row_of row.now)) }
-    ensures keeps { KeepsNameIn table.now type_name.new }
+    ensures { Writes W.contents out.old out.new result (names_text table.now (row_of row.now)) }
 {
-    type_name.write(table, row, out)?;
+    type_name.write(table.type_name(row), out)?;
     out.write_all(b"/")?;
     write_string(table.key_name(row), out)
 }

@@ -2,11 +2,9 @@
 
 ghost use Rattle.std.specs.Prelude.{◌≡◌, IfOk};
 ghost use Rattle.std.specs.List.{flat_map};
-ghost use Rattle.std.specs.Option.{option_map};
 ghost use Rattle.contract_words.specs.Writes.{Writes};
 ghost use Rattle.bags_themes.specs.config_record.DeviceSeen.{device_numbers};
 ghost use Rattle.bags_themes.specs.overlay_map.Candidates.{cand_of};
-ghost use Rattle.bags_themes.specs.reference_resolver.Selection.{selected};
 ghost use Rattle.bags_themes.specs.reference_resolver.Ends.{references_followed, end_of};
 ghost use Rattle.bags_themes.specs.reference_resolver.Trace.{look_ups_of, traced, scan_look_up, IsTraced};
 ghost use Rattle.answer_text.specs.ExplainText.{place_text, candidate_line, candidate_lines, look_up_text, explain_text};
@@ -17,6 +15,7 @@ use crate::layer::write_layer;
 use crate::name::NamesBeside;
 use crate::named::{write_named_id, write_named_number};
 use bags_themes::{Cand, Decision, Device, End, Next, REFERENCES_FOLLOWED, ResId, Stack};
+use reference_resolver::{resolve, select};
 use std::io::{self, Write};
 
 /// Writes how an id comes to its end at a device: a line for each id that is looked up, behind it one for
@@ -33,46 +32,43 @@ pub fn explain<W: Write + Drop>(
     ensures end { IfOk result (λ end. end ≡ end_of names.now.stack references_followed id.0 (device_numbers device.now)) }
     ensures trace { IsTraced names.now.stack references_followed id.0 (device_numbers device.now) }
 {
-    let end = write_look_ups(names, id, REFERENCES_FOLLOWED, device, out)?;
+    let end = resolve(names.stack(), id, device);
+    write_look_ups(names, id, device, out)?;
     write_named_end_line(names, end, out)?;
     Ok(end)
 }
 
-// Writes each look-up, where at most so many references are followed, and gives where they end.
 fn write_look_ups<W: Write + Drop>(
     names: &NamesBeside<'_, '_>,
     id: ResId,
-    most: u8,
     device: &Device,
     out: &mut W,
-) -> io::Result<End>
-    ensures text { Writes W.contents out.old out.new result (flat_map
+) -> io::Result<()>
+    ensures { Writes W.contents out.old out.new result (flat_map
         (look_up_text names.now.stack (device_numbers device.now) names.now.asked)
-        (look_ups_of names.now.stack most id.0 (device_numbers device.now))) }
-    ensures end { IfOk result (λ end. end ≡ end_of names.now.stack most id.0 (device_numbers device.now)) }
+        (look_ups_of names.now.stack references_followed id.0 (device_numbers device.now))) }
 {
+    let stack = names.stack();
     let mut id = id;
-    let mut left = most;
+    let mut left = REFERENCES_FOLLOWED;
     'chain: loop {
-        let picked = write_look_up(names, id, device, out)?;
-        match Next::of(id, &picked).cut_off(left) {
-            Next::EndsAt(end) => return Ok(end),
+        write_look_up(names, id, device, out)?;
+        match Next::of(id, &select(stack, id, device)).cut_off(left) {
+            Next::EndsAt(_) => return Ok(()),
             Next::LookUp(target) => id = target,
         }
         left -= 1;
     }
 }
 
-// Writes a look-up, and gives what it selects.
 #[tactic(auto, unfolding(crate::specs::ExplainText::look_up_text))]
-fn write_look_up<'a, W: Write + Drop>(
-    names: &NamesBeside<'_, 'a>,
+fn write_look_up<W: Write + Drop>(
+    names: &NamesBeside<'_, '_>,
     id: ResId,
     device: &Device,
     out: &mut W,
-) -> io::Result<Option<Cand<'a>>>
-    ensures text { Writes W.contents out.old out.new result (look_up_text names.now.stack (device_numbers device.now) names.now.asked id.0) }
-    ensures picked { IfOk result (λ picked. option_map cand_of picked ≡ selected names.now.stack id.0 (device_numbers device.now)) }
+) -> io::Result<()>
+    ensures { Writes W.contents out.old out.new result (look_up_text names.now.stack (device_numbers device.now) names.now.asked id.0) }
 {
     write_named_id("lookup", id, out)?;
     names.write(id, out)?;
@@ -80,17 +76,16 @@ fn write_look_up<'a, W: Write + Drop>(
     write_candidates(names.stack(), id, device, out)
 }
 
-// Writes a line for each candidate of an id, which are counted from 0, and gives the one that is selected.
-#[tactic(auto, using(contract_words::proofs::TextSteps::puts), unfolding(crate::specs::ExplainText::candidate_lines, crate::specs::Unfolded::selected))]
-fn write_candidates<'a, W: Write + Drop>(
-    stack: &Stack<'a>,
+// Writes a line for each candidate of an id, which are counted from 0.
+#[tactic(auto, using(contract_words::proofs::TextSteps::puts), unfolding(crate::specs::ExplainText::candidate_lines))]
+fn write_candidates<W: Write + Drop>(
+    stack: &Stack<'_>,
     id: ResId,
     device: &Device,
     out: &mut W,
-) -> io::Result<Option<Cand<'a>>>
-    ensures text { Writes W.contents out.old out.new result
+) -> io::Result<()>
+    ensures { Writes W.contents out.old out.new result
         (candidate_lines (scan_look_up traced stack.now (device_numbers device.now) id.0)) }
-    ensures picked { IfOk result (λ picked. option_map cand_of picked ≡ selected stack.now id.0 (device_numbers device.now)) }
 {
     let mut place: u128 = 0;
     let mut best = None;
@@ -100,7 +95,7 @@ fn write_candidates<'a, W: Write + Drop>(
         best = decision.step().best_after(best, candidate);
         place += 1;
     }
-    Ok(best)
+    Ok(())
 }
 
 #[tactic(auto, unfolding(crate::specs::ExplainText::candidate_line))]

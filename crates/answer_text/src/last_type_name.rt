@@ -1,84 +1,97 @@
 //! The text of a type's name that comes again.
 
-ghost use Rattle.std.specs.Prelude.{◌≡◌, true, Some};
+ghost use Rattle.std.specs.Prelude.{◌≡◌, true};
+ghost use Rattle.std.specs.Option.{ForSome};
 ghost use Rattle.contract_words.specs.Writes.{Writes};
-ghost use Rattle.bags_themes.specs.string_pool.Shown.{string_text};
-ghost use Rattle.bags_themes.specs.res_value.ResId.{type_of};
-ghost use Rattle.bags_themes.specs.type_chunks.Row.{row_of};
-ghost use Rattle.bags_themes.specs.resource_table.Table.{TableOf};
-ghost use Rattle.bags_themes.specs.resource_table.Names.{type_name_in};
-ghost use Rattle.answer_text.specs.LastTypeName.{KeepsNameIn};
+ghost use Rattle.bags_themes.specs.string_pool.Shown.{shown_text, string_text};
+ghost use Rattle.bags_themes.specs.string_pool.Text.{seen_text, text_of};
 
 use arrayvec::ArrayVec;
-use bags_themes::{Row, Table};
 use std::io::{self, Write};
-use string_pool::write_string;
+use string_pool::{StringFault, Text, write_string};
 
 /// How many bytes of text are kept; a longer text is written anew each time.
 const KEPT: usize = 128;
 
-/// The type whose name was written last, and the text of that name. The rows of a type follow each other, so the
-/// text is mostly made once for a type.
+/// The name that was written last, and its text. The rows of a type follow each other, so a text is mostly made once
+/// for a type.
 #[derive(Drop)]
-pub(crate) struct LastTypeName {
-    /// The index of its package, and its id there.
-    pub of: Option<(usize, u8)>,
-    pub text: ArrayVec<u8, KEPT>,
+pub(crate) struct LastTypeName<'a> {
+    last: Option<Text<'a>>,
+    text: ArrayVec<u8, KEPT>,
+    ghost known: { ForSome last (λ last. text.items ≡ shown_text (text_of last)) },
 }
 
-impl LastTypeName {
+impl<'a> LastTypeName<'a> {
     /// Nothing was written yet.
-    pub fn none() -> Self
-        ensures { (table : TableOf) → KeepsNameIn table result }
-    {
+    pub fn none() -> Self {
         LastTypeName {
-            of: None,
+            last: None,
             text: ArrayVec::new(),
         }
     }
 
-    // The type of a row, and its name's text where it is short.
-    #[tactic(auto, using(crate::proofs::TypeNameSteps::same_type_name))]
-    fn of(table: &Table<'_>, row: &Row<'_>) -> Self
-        ensures { KeepsNameIn table.now result }
+    // A name with its text, where that is short.
+    fn of(name: Text<'a>) -> Option<Self>
+        ensures { ForSome result (λ kept. kept.text.items ≡ shown_text (text_of name.entry)) }
     {
         let mut text = ArrayVec::new();
-        match write_string(table.type_name(row), &mut text) {
-            Ok(()) => LastTypeName {
-                of: Some((row.package, row.id.type_id())),
+        match name.write_shown(&mut text) {
+            Ok(()) => Some(LastTypeName {
+                last: Some(name),
                 text,
-            },
-            Err(_) => LastTypeName::none(),
+            }),
+            Err(_) => None,
         }
     }
 
-    // Whether this is the type of a row.
-    fn is_of(&self, row: &Row<'_>) -> bool
-        ensures { result ≡ true → self.now.of ≡ Some (row.now.package, type_of row.now.id) }
+    // The text that is kept, where it is that of a name.
+    fn text_of(&self, name: &Text<'_>) -> Option<&[u8]>
+        ensures { ForSome result (λ text. text.now ≡ shown_text (text_of name.now)) }
     {
-        match self.of {
-            Some((package, type_id)) => package == row.package && type_id == row.id.type_id(),
-            None => false,
+        match &self.last {
+            Some(last) if is_same(last, name) => Some(&self.text),
+            _ => None,
         }
     }
 
-    /// Writes the name of a row's type.
+    /// Writes a name, or why there is none.
+    #[tactic(auto, unfolding(crate::specs::Unfolded::string_text))]
     pub fn write<W: Write + Drop>(
         &mut self,
-        table: &Table<'_>,
-        row: &Row<'_>,
+        name: Result<Text<'a>, StringFault>,
         out: &mut W,
     ) -> io::Result<()>
-        requires { KeepsNameIn table.now self.old }
-        ensures text { Writes W.contents out.old out.new result (string_text (type_name_in table.now (row_of row.now))) }
-        ensures keeps { KeepsNameIn table.now self.new }
+        ensures { Writes W.contents out.old out.new result (string_text (seen_text name.entry)) }
     {
-        if !self.is_of(row) {
-            *self = LastTypeName::of(table, row);
+        match name {
+            Ok(name) => self.write_text(name, out),
+            Err(_) => write_string(name, out),
         }
-        if self.is_of(row) {
-            return out.write_all(&self.text);
+    }
+
+    fn write_text<W: Write + Drop>(&mut self, name: Text<'a>, out: &mut W) -> io::Result<()>
+        ensures { Writes W.contents out.old out.new result (shown_text (text_of name.entry)) }
+    {
+        if let Some(text) = self.text_of(&name) {
+            return out.write_all(text);
         }
-        write_string(table.type_name(row), out)
+        match LastTypeName::of(name) {
+            Some(kept) => {
+                *self = kept;
+                out.write_all(&self.text)
+            }
+            None => name.write_shown(out),
+        }
+    }
+}
+
+fn is_same(name: &Text<'_>, other: &Text<'_>) -> bool
+    ensures { result ≡ true → text_of name.now ≡ text_of other.now }
+{
+    match (name, other) {
+        (Text::Utf8(name), Text::Utf8(other)) => name == other,
+        (Text::Utf16(name), Text::Utf16(other)) => name == other,
+        _ => false,
     }
 }

@@ -8,6 +8,7 @@ ghost use Rattle.answer_text.specs.QueryText.{strings_of_layer, strings_of_end, 
 
 use crate::end::write_end_with_name;
 use crate::name::NamesBeside;
+use crate::named::write_named_number;
 use bags_themes::{End, Pool, ResId, Stack};
 use res_value::write_id;
 use std::io::{self, Write};
@@ -36,7 +37,8 @@ pub fn query_line<W: Write + Drop>(
 pub fn set_aside_line<W: Write + Drop>(count: u128, out: &mut W) -> io::Result<()>
     ensures { Writes W.contents out.old out.new result (set_aside_line count) }
 {
-    writeln!(out, "set-aside {count}")
+    write_named_number("set-aside", count, out)?;
+    out.write_all(b"\n")
 }
 
 // The strings of the layer that an end's value is of.

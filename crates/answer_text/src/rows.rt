@@ -6,6 +6,7 @@ ghost use Rattle.answer_text.specs.RowsText.{row_text, totals_text, rows_text};
 
 use crate::cell::{RowFormat, write_row_end};
 use crate::last_record::LastRecord;
+use crate::named::write_named_number;
 use bags_themes::{Row, Table};
 use res_value::write_id;
 use std::io::{self, Write};
@@ -40,7 +41,9 @@ pub fn rows_text<W: Write + Drop>(table: &Table<'_>, out: &mut W) -> io::Result<
 pub fn write_totals<W: Write + Drop>(count: u128, set_aside: u128, out: &mut W) -> io::Result<()>
     ensures { Writes W.contents out.old out.new result (totals_text count set_aside) }
 {
-    writeln!(out, "rows {count} set-aside {set_aside}")
+    write_named_number("rows", count, out)?;
+    write_named_number(" set-aside", set_aside, out)?;
+    out.write_all(b"\n")
 }
 
 #[tactic(auto, unfolding(crate::specs::RowsText::row_text, crate::specs::RowsText::rows_format))]

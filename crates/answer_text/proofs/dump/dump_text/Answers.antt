@@ -4,8 +4,6 @@ use Rattle.answer_text.specs.DumpText.{package_text}
 use Rattle.answer_text.proofs.dump.dump_text.Goals as goal
 
 pub loop-package-preserved : goal.loop-package-preserved
-loop-package-preserved g c = record {
-  keeps = c.in_ok-write_package.ensures.keeps;
-  texts = PutsAllBut-next_at package_of (package_text c.args.table.now) _ _ _ _ c.packages-packages.result.now c.loop-package.package-index c.package-item.result c.loop-package.invariant.texts c.loop-package-test.true
-      c.package-item.is c.in_ok-write_package.ensures.text;
-}
+loop-package-preserved g c =
+    PutsAllBut-next_at package_of (package_text c.args.table.now) _ _ _ _ c.packages-packages.result.now c.loop-package.package-index c.package-item.result c.loop-package.invariant c.loop-package-test.true
+    c.package-item.is c.in_ok-write_package.ensures

@@ -1,13 +1,10 @@
 use Rattle.std.proofs.Common.{drop}
 use Rattle.contract_words.proofs.TextSteps.{PutsAllBut}
 use Rattle.bags_themes.specs.resource_table.Package.{packages_of}
-use Rattle.answer_text.specs.LastTypeName.{KeepsNameIn}
 use Rattle.answer_text.specs.DumpText.{package_text}
 use Rattle.answer_text.proofs.dump.dump_text.Given as goal
 
 -- the lines of all packages were written but of those that are left
 abbrev pub invariant-loop-package : goal.invariant-loop-package
-invariant-loop-package g l = record {
-  keeps : KeepsNameIn l.table l.type_name;
-  texts : PutsAllBut (package_text l.table) (g.W.Write.contents l.fn.out) (g.W.Write.contents l.out) (packages_of l.packages) (packages_of (drop l.package-index l.packages));
-}
+invariant-loop-package g l =
+    PutsAllBut (package_text l.table) (g.W.Write.contents l.fn.out) (g.W.Write.contents l.out) (packages_of l.packages) (packages_of (drop l.package-index l.packages))

@@ -8,37 +8,16 @@ use Rattle.answer_text.specs.CellText.{row_end_text}
 use Rattle.answer_text.specs.DumpText.{dump_format, row_text}
 use Rattle.answer_text.proofs.dump.write_row.Goals as goal
 
-pub returns-clause-text : goal.returns-clause-text
+pub returns : goal.returns
 unfolding row_text dump_format
-returns-clause-text g c =
+returns g c =
     let contents = g.W.Write.contents in
     let end =
     subst (λ (strings : PoolOf). OnOk c.write_row_end.result (Appends (contents c.write_all-3.new.self) (contents c.write_row_end.new.out) (row_end_text (dump_format strings) (row_of c.args.row.now))))
     c.strings.ensures c.write_row_end.ensures in
     let to_id = Appends-trans _ _ _ _ _ c.in_ok-write_all.ensures.bytes c.in_ok-write_id.ensures.text in
     let to_space = Appends-trans _ _ _ _ _ to_id c.in_ok-write_all-2.ensures.bytes in
-    let to_names = Appends-trans _ _ _ _ _ to_space c.in_ok-write_names.ensures.text in
+    let to_names = Appends-trans _ _ _ _ _ to_space c.in_ok-write_names.ensures in
     let to_flags = Appends-trans _ _ _ _ _ to_names c.in_ok-write_flags.ensures in
     let to_end = Appends-trans _ _ _ _ _ to_flags c.in_ok-write_all-3.ensures.bytes in
     on_ok_weaker c.write_row_end.result (λ last. Appends-trans _ _ _ _ _ to_end last) end
-
-pub returns-clause-keeps : goal.returns-clause-keeps
-returns-clause-keeps g c = c.in_ok-write_names.ensures.keeps
-
-pub returns-in_err-write_all-3-clause-keeps : goal.returns-in_err-write_all-3-clause-keeps
-returns-in_err-write_all-3-clause-keeps g c = c.in_ok-write_names.ensures.keeps
-
-pub returns-in_err-write_flags-clause-keeps : goal.returns-in_err-write_flags-clause-keeps
-returns-in_err-write_flags-clause-keeps g c = c.in_ok-write_names.ensures.keeps
-
-pub returns-in_err-write_names-clause-keeps : goal.returns-in_err-write_names-clause-keeps
-returns-in_err-write_names-clause-keeps g c = c.in_err-write_names.ensures.keeps
-
-pub returns-in_err-write_all-2-clause-keeps : goal.returns-in_err-write_all-2-clause-keeps
-returns-in_err-write_all-2-clause-keeps g c = c.requires
-
-pub returns-in_err-write_id-clause-keeps : goal.returns-in_err-write_id-clause-keeps
-returns-in_err-write_id-clause-keeps g c = c.requires
-
-pub returns-in_err-write_all-clause-keeps : goal.returns-in_err-write_all-clause-keeps
-returns-in_err-write_all-clause-keeps g c = c.requires

@@ -5,9 +5,8 @@ pub loop-row-preserved : goal.loop-row-preserved
 loop-row-preserved g c = record {
   can = tt;
   ends = tt;
-  keeps = c.in_ok-write_in_one_piece.ensures.keeps;
-  texts = PutsAllBut-next _ _ _ _ _ _ _ _ c.loop-row.invariant.texts c.in-Some.ensures.steps c.in_ok-write_in_one_piece.ensures.text;
+  texts = PutsAllBut-next _ _ _ _ _ _ _ _ c.loop-row.invariant.texts c.in-Some.ensures.steps c.in_ok-write_in_one_piece.ensures;
 }
 
-pub returns-clause-text : goal.returns-clause-text
-returns-clause-text g c = PutsAllBut-done _ _ _ _ _ c.loop-row.invariant.texts c.in-None.ensures.steps.0
+pub returns : goal.returns
+returns g c = PutsAllBut-done _ _ _ _ _ c.loop-row.invariant.texts c.in-None.ensures.steps.0

@@ -11,14 +11,17 @@ pub returns-clause-text : goal.returns-clause-text
 unfolding explain_text
 returns-clause-text g c =
     let contents = g.W.Write.contents in
-    Appends-trans _ _ _ _ _ c.in_ok-end.ensures.text
-    (subst (λ (end : End). Appends (contents c.write_look_ups.new.out) (contents c.write_named_end_line.new.out) (named_end_line c.args.names.now.stack end c.args.names.now.asked)) c.in_ok-end.ensures.end c.in_ok-write_named_end_line.ensures)
+    Appends-trans _ _ _ _ _ c.in_ok-write_look_ups.ensures
+    (subst (λ (end : End). Appends (contents c.write_look_ups.new.out) (contents c.write_named_end_line.new.out) (named_end_line c.args.names.now.stack end c.args.names.now.asked)) (rw c.stack.ensures at c.resolve-end.ensures.value) c.in_ok-write_named_end_line.ensures)
 
-pub returns-in_err-end-clause-trace : goal.returns-in_err-end-clause-trace
-returns-in_err-end-clause-trace g c = is_traced _ _ _ _
+pub returns-in_err-write_look_ups-clause-trace : goal.returns-in_err-write_look_ups-clause-trace
+returns-in_err-write_look_ups-clause-trace g c = is_traced _ _ _ _
 
 pub returns-in_err-write_named_end_line-clause-trace : goal.returns-in_err-write_named_end_line-clause-trace
 returns-in_err-write_named_end_line-clause-trace g c = is_traced _ _ _ _
 
 pub returns-clause-trace : goal.returns-clause-trace
 returns-clause-trace g c = is_traced _ _ _ _
+
+pub returns-clause-end : goal.returns-clause-end
+returns-clause-end g c = rw c.stack.ensures at c.resolve-end.ensures.value

@@ -7,7 +7,7 @@ use Rattle.bags_themes.specs.config_record.DeviceSeen.{device_numbers}
 use Rattle.bags_themes.specs.overlay_map.Candidates.{CandOf, cand_of}
 use Rattle.bags_themes.specs.reference_resolver.declared.decision.Decision.{Decision}
 use Rattle.bags_themes.specs.reference_resolver.declared.step.Step.{Step}
-use Rattle.bags_themes.specs.reference_resolver.Selection.{best_after, best_of, scan_candidates, step_of}
+use Rattle.bags_themes.specs.reference_resolver.Selection.{best_after, scan_candidates, step_of}
 use Rattle.bags_themes.specs.reference_resolver.Trace.{TracedCandidateOf, traced}
 use Rattle.answer_text.specs.ExplainText.{candidate_line, candidate_lines}
 use Rattle.answer_text.proofs.explanation.write_candidates.Goals as goal
@@ -17,11 +17,6 @@ next-lines : (d : List ℕ) (place : ℕ) (best after : Option CandOf) (left oth
 next-lines d place best after left others seen split is =
     let behind : Option CandOf → List (ℕ × TracedCandidateOf) = λ b. (place, traced best seen d) ∷ enumerate_from (place + 1) (scan_candidates traced b others d) in
     ap (λ (candidates : List CandOf). enumerate_from place (scan_candidates traced best candidates d)) split ∙ ap behind (sym is)
-
-next-best : (d : List ℕ) (best after : Option CandOf) (left others : List CandOf) (seen : CandOf) → left ≡ seen ∷ others → after ≡ best_after (step_of best seen d) best seen
-    → best_of after others d ≡ best_of best left d
-next-best d best after left others seen split is =
-    ap (λ (b : Option CandOf). best_of b others d) is ∙ sym (ap (λ (candidates : List CandOf). best_of best candidates d) split)
 
 pub loop-candidate-preserved : goal.loop-candidate-preserved
 loop-candidate-preserved g c =
@@ -39,18 +34,12 @@ loop-candidate-preserved g c =
           PutsAllBut-next candidate_line _ _ _ _ _ _ _ l.invariant.texts (next-lines d l.place best _ _ _ seen c.in-Some.ensures.steps after)
           (subst (λ (decision : Decision). Appends (contents l.out) (contents c.write_candidate.new.out) (candidate_line (l.place, record { candidate = seen; decision = decision })))
           c.of-decision.ensures.value c.in_ok-write_candidate.ensures);
-      picked = next-best d best _ _ _ seen c.in-Some.ensures.steps after ∙ l.invariant.picked;
       few = omega (arith, l.invariant.few, ap length c.in-Some.ensures.steps);
     }
 
-pub returns-clause-text : goal.returns-clause-text
+pub returns : goal.returns
 unfolding candidate_lines
-returns-clause-text g c =
+returns g c =
     let d = device_numbers c.args.device.now in
     let l = c.loop-candidate in
     PutsAllBut-done _ _ _ _ _ l.invariant.texts (ap (λ (others : List CandOf). enumerate_from l.place (scan_candidates traced (option_map cand_of l.best) others d)) c.in-None.ensures.steps.0)
-
-pub returns-clause-picked : goal.returns-clause-picked
-returns-clause-picked g c =
-    let l = c.loop-candidate in
-    sym (ap (λ (others : List CandOf). best_of (option_map cand_of l.best) others (device_numbers c.args.device.now)) c.in-None.ensures.steps.0) ∙ l.invariant.picked
