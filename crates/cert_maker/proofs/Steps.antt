@@ -1,7 +1,6 @@
 -- One node more.
-use Rattle.std.proofs.Common.{◌≡◌, ℕ, arith, inl, inr, true, false, List, [], ◌∷◌, ◌++◌, Option, Some, None, map, reverse, sym, ◌∙◌, ap, refl, subst}
+use Rattle.std.proofs.Common.{◌≡◌, ℕ, ◌+◌, arith, inl, inr, true, false, List, [], ◌∷◌, ◌++◌, Some, length, length-append, map, reverse, sym, ◌∙◌, ap, refl, subst}
 use Rattle.std.proofs.lemmas.Bool.{cases_Bool}
-use Rattle.std.specs.Prelude.{IfNone, IfSome}
 use Rattle.std.proofs.lemmas.List.{map-append}
 use Rattle.cert_checker.specs.res_value.declared.res_id.ResId.{ResId}
 use Rattle.cert_checker.specs.res_value.declared.value.Value.{Value}
@@ -127,8 +126,5 @@ grows-halved trace part test old new before after_it e opens s fits =
 pub map-push : {A B : Type 0} (f : A → B) (xs ys : List A) (x : A) → ys ≡ xs ++ x ∷ [] → map f ys ≡ map f xs ++ f x ∷ []
 map-push f xs ys x e = ap (map f) e ∙ map-append f xs (x ∷ [])
 
-pub when-none : {A : Type 0} (o : Option A) (P : Type 0) → o ≡ None → IfNone o P → P
-when-none o P e h = subst (λ x. IfNone x P) e h
-
-pub when-some : {A : Type 0} (o : Option A) (x : A) (P : A → Type 0) → o ≡ Some x → IfSome o P → P x
-when-some o x P e h = subst (λ y. IfSome y P) e h
+pub one-longer : {A : Type 0} (xs ys : List A) (x : A) → ys ≡ xs ++ x ∷ [] → length ys ≡ length xs + 1
+one-longer xs ys x e = ap length e ∙ length-append xs (x ∷ [])

@@ -1,6 +1,7 @@
 -- How a tree grows: node by node, with the boxes of its open paths. (Cited by contracts of this crate alone.)
-use Rattle.std.specs.Prelude.{◌≡◌, ℕ, ◌<◌, ◌≤◌, false, List, [], ◌∷◌, ◌++◌, map, reverse, length}
+use Rattle.std.specs.Prelude.{◌≡◌, ℕ, ◌+◌, ◌<◌, ◌≤◌, false, List, [], ◌∷◌, ◌++◌, map, reverse, length, Option, Some, None}
 use Rattle.std.specs.List.{All}
+use Rattle.cert_checker.specs.config_record.declared.device.Device.{Device}
 use Rattle.cert_checker.specs.config_record.DeviceSeen.{device_numbers}
 use Rattle.cert_checker.specs.reference_resolver.declared.end.End.{End}
 use Rattle.cert_checker.specs.overlay_map.Layer.{LayerOf}
@@ -10,6 +11,7 @@ use Rattle.cert_checker.specs.box_trace.OpenBox.{boxes_of, IsReached}
 use Rattle.cert_checker.specs.box_answers.NumberSet.{SetOf}
 use Rattle.cert_checker.specs.box_answers.Members.{IsMember}
 use Rattle.cert_checker.specs.config_box.Tests.{TestOf}
+use Rattle.cert_checker.specs.cert_tree.declared.node.Node.{Node}
 use Rattle.cert_checker.specs.cert_tree.Certificate.{NodeOf, node_of}
 use Rattle.cert_checker.specs.res_value.Goal.{GoalSeen}
 use Rattle.cert_checker.specs.declared.rule.Rule.{Rule}
@@ -54,6 +56,13 @@ pub record IsCounterexampleOf (trace : List ℕ → Trace) (sets : List SetOf) (
   pub member : IsMember sets d
   pub ends : (trace d).end ≡ end
   pub no_value : is_value end ≡ false
+
+-- one node more, and the tree grows; or a member for which the goal ends at no value, with that end
+abbrev pub AddsOrEnds : List LayerOf → OpenBox → List Node → List Node → List OpenBox → List OpenBox → Option (Device × End) → Type 0
+AddsOrEnds stack part old new before after_it None =
+    GrowsOn stack part (map node_of old) (map node_of new) before after_it × (length new ≡ length old + 1)
+AddsOrEnds stack part old new before after_it (Some found) =
+    (trace : List ℕ → Trace) → IsReached stack trace part → IsCounterexampleOf trace part.members (device_numbers found.0) found.1
 
 -- no rule fails in the tree, its tests are needed, it is within the limit, and its nodes within what JSON can say; or a
 -- member ends at no value; or there is a tree of needed tests above the limit

@@ -1,14 +1,10 @@
 //! One node more.
 
-ghost use Rattle.std.specs.Prelude.{◌≡◌, ℕ, List, ◌+◌, map, length, IfOk, IfNone, IfSome, MatchOption, false};
-ghost use Rattle.cert_checker.specs.config_record.DeviceSeen.{device_numbers};
-ghost use Rattle.cert_checker.specs.overlay_map.Layer.{LayerOf};
+ghost use Rattle.std.specs.Prelude.{◌≡◌, IfOk, MatchOption, false};
 ghost use Rattle.cert_checker.specs.reference_resolver.Ends.{is_value};
-ghost use Rattle.cert_checker.specs.reference_resolver.Trace.{Trace};
-ghost use Rattle.cert_checker.specs.box_trace.OpenBox.{IsReached};
 ghost use Rattle.cert_checker.specs.cert_tree.Certificate.{node_of};
 ghost use Rattle.cert_checker.specs.Paths.{leaf_end};
-ghost use Rattle.cert_maker.specs.Growth.{GrowsOn, IsCounterexampleOf};
+ghost use Rattle.cert_maker.specs.Growth.{AddsOrEnds};
 
 use crate::next_test::parting_test;
 use cert_checker::{
@@ -25,9 +21,7 @@ pub(crate) fn add_node<'a, 's>(
     nodes: &mut Vec<Node>,
     open_boxes: &mut OpenBoxes<'a, 's>,
 ) -> Result<Option<(Device, End)>, OutOfMemory>
-    ensures grows { IfOk result (λ found. IfNone found (GrowsOn stack.now part.old (map node_of nodes.old.items) (map node_of nodes.new.items) open_boxes.old open_boxes.new)) }
-    ensures one_more { IfOk result (λ found. IfNone found (length nodes.new.items ≡ length nodes.old.items + 1)) }
-    ensures counterexample { IfOk result (λ found. IfSome found (λ shown. (trace : List ℕ → Trace) → IsReached stack.now trace part.old → IsCounterexampleOf trace part.old.members (device_numbers shown.0) shown.1)) }
+    ensures { IfOk result (AddsOrEnds stack.now part.old nodes.old.items nodes.new.items open_boxes.old open_boxes.new) }
 {
     match part.common_trace(alloc, stack)? {
         CommonTrace::One(end) => match leaf_of(end) {

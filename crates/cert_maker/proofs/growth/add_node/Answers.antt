@@ -13,14 +13,14 @@ use Rattle.cert_checker.specs.cert_tree.declared.node.Node.TheVariants as code
 use Rattle.cert_checker.specs.declared.rule.Rule.TheVariants.{TestKind, EmptyHalf}
 use Rattle.cert_checker.specs.FirstFault.{goal_trace}
 use Rattle.cert_checker.proofs.box_trace.OpenBoxSteps.{rest_of, reached_there, told_in_place}
-use Rattle.cert_maker.specs.Growth.{Grows}
+use Rattle.cert_maker.specs.Growth.{Grows, GrowsOn}
 use Rattle.cert_maker.proofs.GoalLayers.{goal-below}
 use Rattle.cert_maker.proofs.Cut.{needed-by-trace}
-use Rattle.cert_maker.proofs.Steps.{grows-leaf, grows-halved, map-push}
+use Rattle.cert_maker.proofs.Steps.{grows-leaf, grows-halved, map-push, one-longer}
 use Rattle.cert_maker.proofs.growth.add_node.Goals as goal
 
-pub returns-in_ok-push-in-Some-clause-grows : goal.returns-in_ok-push-in-Some-clause-grows
-returns-in_ok-push-in-Some-clause-grows c = λ goal reached all.
+grows-to-leaf : (c : goal.In_ok-push-in-Some) → GrowsOn c.args.stack.now c.args.part.now (map node_of c.args.nodes.now.items) (map node_of c.push.new.self.items) c.args.open_boxes.now c.args.open_boxes.now
+grows-to-leaf c = λ goal reached all.
     let trace : List ℕ → Trace = goal_trace c.args.stack.now goal in
     let part = c.args.part.now.members in
     let common = subst (λ (k : CommonTrace). IsCommonTrace k part trace) c.in-One.is (c.in_ok-end.ensures.common trace reached) in
@@ -34,8 +34,11 @@ returns-in_ok-push-in-Some-clause-grows c = λ goal reached all.
       all,
     )
 
-pub returns-in-None-clause-counterexample : goal.returns-in-None-clause-counterexample
-returns-in-None-clause-counterexample c = λ trace reached.
+pub returns-in_ok-push-in-Some : goal.returns-in_ok-push-in-Some
+returns-in_ok-push-in-Some c = (grows-to-leaf c, one-longer _ _ _ c.in_ok-push-in-Some.ensures.items)
+
+pub returns-in-None : goal.returns-in-None
+returns-in-None c = λ trace reached.
     let part = c.args.part.now.members in
     let common = subst (λ (k : CommonTrace). IsCommonTrace k part trace) c.in-One.is (c.in_ok-end.ensures.common trace reached) in
     let corner = subst (λ (sets : List SetOf). IsCorner sets (device_numbers c.corner.result)) c.in_ok-end.ensures.members c.corner.ensures in
@@ -61,8 +64,8 @@ unreachable-requires-in-EmptyHalf c =
     let empty = subst (IsHalving _ _ _ _) c.in-EmptyHalf.is c.in_ok-halving-in-Mixed.ensures.halved in
     c.in_ok-test-in-Mixed.ensures.needed.passes EmptyHalf empty.1
 
-pub returns-in_ok-push-in-Opened-clause-grows : goal.returns-in_ok-push-in-Opened-clause-grows
-returns-in_ok-push-in-Opened-clause-grows c = λ goal reached all.
+grows-to-test : (c : goal.In_ok-push-in-Opened) → GrowsOn c.args.stack.now c.args.part.now (map node_of c.args.nodes.now.items) (map node_of c.push-in-Opened.new.self.items) c.args.open_boxes.now c.push_halves.new.self
+grows-to-test c = λ goal reached all.
     let stack = c.args.stack.now in
     let trace : List ℕ → Trace = goal_trace stack goal in
     let further = c.in_ok-end.ensures.reached trace reached in
@@ -78,3 +81,6 @@ returns-in_ok-push-in-Opened-clause-grows c = λ goal reached all.
       subst (λ (sets : List SetOf). Grows trace sets old new (boxes_of c.args.open_boxes.now) (boxes_of c.push_halves.new.self)) (c.in_ok-parting-in-Mixed.ensures.members ∙ c.in_ok-end.ensures.members) grows,
       c.in_ok-halving-in-Mixed.ensures.reached stack trace (c.in_ok-parting-in-Mixed.ensures.reached stack trace further) all,
     )
+
+pub returns-in_ok-push-in-Opened : goal.returns-in_ok-push-in-Opened
+returns-in_ok-push-in-Opened c = (grows-to-test c, one-longer _ _ _ c.in_ok-push-in-Opened.ensures.items)

@@ -1,4 +1,5 @@
-use Rattle.std.proofs.Common.{◌≡◌, Bool, sym, ◌∙◌, ap}
+use Rattle.std.proofs.Common.{◌≡◌, Bool, filter, sym, ◌∙◌, ap}
+use Rattle.std.proofs.lemmas.List.{take_all}
 use Rattle.std.proofs.lemmas.List.Elements.{All-same, All-push}
 use Rattle.cert_checker.specs.config_record.DeviceSeen.{device_numbers}
 use Rattle.cert_checker.specs.config_record.locales.declared.locale.Locale.{Locale}
@@ -32,3 +33,8 @@ loop-locale-preserved c =
             back = All-same IsWhole _ _ is c.loop-locale.invariant.back;
           }
     ]
+
+pub returns-clause-listed : goal.returns-clause-listed
+returns-clause-listed c =
+    let test : Locale → Bool = answer_in (answer_of c.args.parting.now) (device_numbers c.args.parting.now.pair.yes) in
+    c.loop-locale.invariant.listed ∙ ap (filter test) (take_all c.loop-locale.locale-index c.args.locales.now c.loop-locale-test.false)

@@ -1,4 +1,5 @@
-use Rattle.std.proofs.Common.{ℕ, Bool, sym, ◌∙◌, ap}
+use Rattle.std.proofs.Common.{ℕ, Bool, filter, sym, ◌∙◌, ap}
+use Rattle.std.proofs.lemmas.List.{take_all}
 use Rattle.cert_checker.specs.config_record.DeviceSeen.{device_numbers}
 use Rattle.cert_checker.specs.box_trace.Parting.{answer_of}
 use Rattle.cert_maker.specs.Listed.{answer_with}
@@ -18,3 +19,8 @@ loop-number-preserved c =
           passed-over test c.args.numbers.now c.loop-number.listed.items c.if-answers_yes.listed.items c.loop-number.number-index _ c.loop-number-test.true c.loop-number.invariant (sym same ∙ w.if-answers_yes.false)
           (ap (λ v. v.items) w.listed-is)
     ]
+
+pub returns : goal.returns
+returns c =
+    let test : ℕ → Bool = answer_with (answer_of c.args.parting.now) (device_numbers c.args.parting.now.pair.yes) c.args.at in
+    c.loop-number.invariant ∙ ap (filter test) (take_all c.loop-number.number-index c.args.numbers.now c.loop-number-test.false)

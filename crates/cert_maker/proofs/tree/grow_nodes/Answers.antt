@@ -1,4 +1,4 @@
-use Rattle.std.proofs.Common.{length, map, Some, arith, ap}
+use Rattle.std.proofs.Common.{length, map, Some, arith, ap, subst}
 use Rattle.std.proofs.lemmas.List.{length-map}
 use Rattle.std.proofs.lemmas.List.Elements.{All-pop}
 use Rattle.cert_checker.specs.config_record.DeviceSeen.{device_numbers}
@@ -7,7 +7,7 @@ use Rattle.cert_checker.specs.FirstFault.{goal_trace}
 use Rattle.cert_checker.specs.box_trace.declared.open_box.OpenBox.{OpenBox}
 use Rattle.cert_checker.specs.box_trace.OpenBox.{boxes_of, IsReached}
 use Rattle.cert_checker.proofs.box_trace.OpenBoxSteps.{boxes-push}
-use Rattle.cert_maker.proofs.Steps.{when-none, when-some}
+use Rattle.cert_maker.specs.Growth.{AddsOrEnds}
 use Rattle.cert_maker.proofs.Loop.{started, goes-on, done-passes, done-needed, done-fits, too-large, member-of-whole}
 use Rattle.cert_maker.proofs.tree.grow_nodes.Goals as goal
 
@@ -27,7 +27,7 @@ returns-in-Some-2 c = λ goal sets is.
     let trace = goal_trace c.args.stack.now goal in
     let before = c.boxes.invariant.grown goal sets is in
     let taken = All-pop (IsReached c.args.stack.now trace) c.boxes.open_boxes c.pop.new.self (Some c.in-Some.part) c.in-Some.ensures.items before.1 in
-    let found = when-some _ (c.in-Some-2.device, c.in-Some-2.end) _ c.in-Some-2.is c.in_ok-device.ensures.counterexample trace taken.1 in
+    let found = subst (AddsOrEnds c.args.stack.now c.in-Some.part c.boxes.nodes.items c.add_node-found.new.nodes.items c.pop.new.self c.add_node-found.new.open_boxes) c.in-Some-2.is c.in_ok-device.ensures trace taken.1 in
     record {
       member = member-of-whole trace sets c.in-Some.part.members (map node_of c.boxes.nodes.items) (boxes_of c.boxes.open_boxes) (boxes_of c.pop.new.self) (device_numbers c.in-Some-2.device)
           (boxes-push _ _ _ c.in-Some.ensures.items) before.0 found.member;
@@ -42,7 +42,7 @@ returns-then-len-most c = λ goal sets is.
     let count = length-map c.add_node-found.new.nodes.items node_of in
     let open_count = length-map c.add_node-found.new.open_boxes (λ (part : OpenBox). part.members) in
     let taken = All-pop (IsReached c.args.stack.now trace) c.boxes.open_boxes c.pop.new.self (Some c.in-Some.part) c.in-Some.ensures.items before.1 in
-    let grown = when-none _ _ c.in_default-2.is c.in_ok-device.ensures.grows goal taken.1 taken.0 in
+    let grown = (subst (AddsOrEnds c.args.stack.now c.in-Some.part c.boxes.nodes.items c.add_node-found.new.nodes.items c.pop.new.self c.add_node-found.new.open_boxes) c.in_default-2.is c.in_ok-device.ensures).0 goal taken.1 taken.0 in
     too-large trace sets (map node_of c.add_node-found.new.nodes.items) (boxes_of c.add_node-found.new.open_boxes) c.args.most
     (goes-on trace sets c.in-Some.part.members (map node_of c.boxes.nodes.items) (map node_of c.add_node-found.new.nodes.items) (boxes_of c.boxes.open_boxes) (boxes_of c.pop.new.self) (boxes_of c.add_node-found.new.open_boxes)
     (boxes-push _ _ _ c.in-Some.ensures.items) before.0 grown.0)
@@ -54,13 +54,19 @@ boxes-preserved c = record {
       let trace = goal_trace c.args.stack.now goal in
       let before = c.boxes.invariant.grown goal sets is in
       let taken = All-pop (IsReached c.args.stack.now trace) c.boxes.open_boxes c.pop.new.self (Some c.in-Some.part) c.in-Some.ensures.items before.1 in
-      let grown = when-none _ _ c.in_default-2.is c.in_ok-device.ensures.grows goal taken.1 taken.0 in (
+      let grown = (subst (AddsOrEnds c.args.stack.now c.in-Some.part c.boxes.nodes.items c.add_node-found.new.nodes.items c.pop.new.self c.add_node-found.new.open_boxes) c.in_default-2.is c.in_ok-device.ensures).0 goal taken.1 taken.0 in (
         goes-on trace sets c.in-Some.part.members (map node_of c.boxes.nodes.items) (map node_of c.add_node-found.new.nodes.items) (boxes_of c.boxes.open_boxes) (boxes_of c.pop.new.self) (boxes_of c.add_node-found.new.open_boxes)
             (boxes-push _ _ _ c.in-Some.ensures.items) before.0 grown.0,
         grown.1,
       );
   within = omega arith;
 }
+
+pub boxes-smaller : goal.boxes-smaller
+boxes-smaller c =
+    let added = subst (AddsOrEnds c.args.stack.now c.in-Some.part c.boxes.nodes.items c.add_node-found.new.nodes.items c.pop.new.self c.add_node-found.new.open_boxes) c.in_default-2.is c.in_ok-device.ensures in
+    let longer = added.1 in
+    omega (arith, longer)
 
 pub returns : goal.returns
 returns c = λ goal sets is.
