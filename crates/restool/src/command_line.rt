@@ -1,15 +1,14 @@
 //! The command line that is understood: its arguments with their helps, and how clap gets it.
 
-ghost use Rattle.std.specs.Prelude.{◌≡◌, false, IfOk, IfErr};
-ghost use Rattle.clap.specs.Words.{app_of, kind_of, rule_of};
-ghost use Rattle.clap.specs.Simple.{shape_of, with_subcommand};
+ghost use Rattle.std.specs.Prelude.{◌≡◌, false};
+ghost use Rattle.clap.specs.Words.{app_of, rule_of};
+ghost use Rattle.clap.specs.Simple.{with_subcommand};
 ghost use Rattle.restool.specs.Request.{command_line, program_alone};
-ghost use Rattle.restool.specs.ArgumentsSeen.{IsLocal, rule_seen, command_seen, with_arguments, with_commands};
+ghost use Rattle.restool.specs.ArgumentsSeen.{Builds, IsBuilt, IsLocal, rule_seen, command_seen, with_arguments, with_commands};
 
 use crate::request::USAGES;
-use clap::error::ErrorKind;
 use clap::{Arg, ArgAction, Command, value_parser};
-use std::alloc::Global;
+use std::alloc::{AllocError, Global};
 
 /// What `--version` prints after the program's name.
 const VERSION: &str = "0.1.0";
@@ -50,12 +49,10 @@ pub(crate) struct Argument {
 /// What an argument takes.
 #[derive(Clone, Copy)]
 enum Takes {
-    OneWord,
-    /// One word, or none.
-    MaybeOneWord,
-    Words,
-    /// One word or more, or none.
-    MaybeWords,
+    /// One word; where it is not required, maybe none.
+    Word { is_required: bool },
+    /// One word or more; where they are not required, maybe none.
+    Words { is_required: bool },
     /// Nothing: it is a flag.
     Nothing,
     /// One word, after the argument's name.
@@ -74,44 +71,44 @@ pub(crate) const NODES_IF_LEFT_OUT: u32 = 100_000;
 
 pub(crate) const TABLE: Argument = Argument {
     name: "TABLE",
-    takes: Takes::OneWord,
+    takes: Takes::Word { is_required: true },
     help: "Path of the apk or of its resources.arsc, or - for standard input",
 };
 
 pub(crate) const TARGET: Argument = Argument {
     name: "TARGET",
-    takes: Takes::OneWord,
+    takes: Takes::Word { is_required: true },
     help: "Path of the apk, or resources.arsc, that is overlaid, or - for standard input",
 };
 
 pub(crate) const OVERLAY: Argument = Argument {
     name: "OVERLAY",
-    takes: Takes::OneWord,
+    takes: Takes::Word { is_required: true },
     help: "Path of the overlay's apk, or resources.arsc, or - for standard input",
 };
 
 pub(crate) const LAYERS: Argument = Argument {
     name: "LAYERS",
-    takes: Takes::OneWord,
+    takes: Takes::Word { is_required: true },
     help: "Paths of apks or tables, with `,` before each but the first and `+` before an overlay; \
            or the path of a JSON list of layers",
 };
 
 pub(crate) const OLD: Argument = Argument {
     name: "OLD",
-    takes: Takes::OneWord,
+    takes: Takes::Word { is_required: true },
     help: "The layers before the change, as for other commands",
 };
 
 pub(crate) const NEW: Argument = Argument {
     name: "NEW",
-    takes: Takes::OneWord,
+    takes: Takes::Word { is_required: true },
     help: "The layers after the change",
 };
 
 pub(crate) const DEVICE: Argument = Argument {
     name: "DEVICE",
-    takes: Takes::OneWord,
+    takes: Takes::Word { is_required: true },
     help: "What `adb shell am get-config` prints, which begins with `config:`; \
            or the path of the JSON object with the device's qualifiers",
 };
@@ -124,46 +121,46 @@ pub(crate) const CONFIG: Argument = Argument {
 
 pub(crate) const BOX: Argument = Argument {
     name: "BOX",
-    takes: Takes::OneWord,
+    takes: Takes::Word { is_required: true },
     help: "Path of the JSON object with the devices' qualifiers, each a list or a range; \
            `restool survey LAYERS BOX` tells which it lacks",
 };
 
 pub(crate) const MAYBE_BOX: Argument = Argument {
     name: "BOX",
-    takes: Takes::MaybeOneWord,
+    takes: Takes::Word { is_required: false },
     help: "Path of the JSON object with the devices' qualifiers, to see which it lacks",
 };
 
 pub(crate) const CERTIFICATE: Argument = Argument {
     name: "CERT",
-    takes: Takes::OneWord,
+    takes: Takes::Word { is_required: true },
     help: "Path of the JSON certificate",
 };
 
 pub(crate) const ID: Argument = Argument {
     name: "ID",
-    takes: Takes::OneWord,
+    takes: Takes::Word { is_required: true },
     help: "Resource, by its id or its name, such as 0x7f010000, dimen/margin or android:dimen/margin",
 };
 
 pub(crate) const IDS: Argument = Argument {
     name: "ID",
-    takes: Takes::Words,
+    takes: Takes::Words { is_required: true },
     help: "Resource, by its id or its name, such as 0x7f010000, dimen/margin or android:dimen/margin; dimen/* for all \
            of a type, * for all, @FILE for those in a file, one a line",
 };
 
 pub(crate) const MAYBE_NAMES: Argument = Argument {
     name: "NAME",
-    takes: Takes::MaybeWords,
+    takes: Takes::Words { is_required: false },
     help: "Resource, by its id or its name, such as 0x7f010000, dimen/margin or android:dimen/margin; dimen/* for \
            all of a type, * for all, @FILE for those in a file, one a line; without one, all",
 };
 
 pub(crate) const GOALS: Argument = Argument {
     name: "GOAL",
-    takes: Takes::Words,
+    takes: Takes::Words { is_required: true },
     help: "Resource, by its id or its name, such as 0x7f010000, dimen/margin or android:dimen/margin; an attribute under \
            styles, such as attr/color@style/Theme,style/Dark; dimen/* for all of a type, * for all, \
            @FILE for those in a file, one a line",
@@ -171,19 +168,19 @@ pub(crate) const GOALS: Argument = Argument {
 
 pub(crate) const BAG_ID: Argument = Argument {
     name: "ID",
-    takes: Takes::OneWord,
+    takes: Takes::Word { is_required: true },
     help: "Bag, by its id or its name, such as 0x7f010000 or style/Theme",
 };
 
 pub(crate) const ATTRIBUTE: Argument = Argument {
     name: "ATTR",
-    takes: Takes::OneWord,
+    takes: Takes::Word { is_required: true },
     help: "Attribute, by its id or its name, such as 0x01010000 or attr/color",
 };
 
 pub(crate) const STYLES: Argument = Argument {
     name: "STYLE",
-    takes: Takes::Words,
+    takes: Takes::Words { is_required: true },
     help: "Style, by its id or its name, such as 0x7f010000 or style/Theme; @FILE for those in a \
            file, one a line",
 };
@@ -271,20 +268,16 @@ pub(crate) const DOT: Argument = Argument {
 };
 
 /// The command line, for a parse.
-pub(crate) fn command_line<'a>(alloc: Global) -> Result<Command<'a>, clap::Error>
-    ensures app { IfOk result (λ program. app_of program ≡ command_line) }
-    ensures local { IfOk result IsLocal }
-    ensures memory { IfErr result (λ error. kind_of error ≡ ErrorKind.OutOfMemory) }
+pub(crate) fn command_line<'a>(alloc: Global) -> Result<Command<'a>, AllocError>
+    ensures { Builds command_line result }
 {
-    let program = program_alone(alloc);
-    with_commands(alloc, program, USAGES)
+    with_commands(alloc, program_alone(alloc), USAGES)
 }
 
 // The program, without its commands.
 #[tactic(auto, unfolding(crate::specs::Request::program_alone))]
 fn program_alone<'a>(alloc: Global) -> Command<'a>
-    ensures app { app_of result ≡ program_alone }
-    ensures local { IsLocal result }
+    ensures { IsBuilt program_alone result }
 {
     Command::new(alloc, "restool")
         .about(ABOUT)
@@ -297,51 +290,36 @@ fn with_commands<'a>(
     alloc: Global,
     program: Command<'a>,
     usages: &[Usage],
-) -> Result<Command<'a>, clap::Error>
+) -> Result<Command<'a>, AllocError>
     requires { IsLocal program }
-    ensures app { IfOk result (λ whole. app_of whole ≡ with_commands (app_of program.entry) usages.now) }
-    ensures local { IfOk result IsLocal }
-    ensures memory { IfErr result (λ error. kind_of error ≡ ErrorKind.OutOfMemory) }
+    ensures { Builds (with_commands (app_of program.entry) usages.now) result }
 {
     let mut program = program;
     for usage in usages {
-        let built = built_command(alloc, usage)?;
-        program = with_subcommand(program, built)?;
+        program = with_command(alloc, program, usage)?;
     }
     Ok(program)
 }
 
-fn with_subcommand<'a>(
+fn with_command<'a>(
+    alloc: Global,
     program: Command<'a>,
-    subcommand: Command<'a>,
-) -> Result<Command<'a>, clap::Error>
-    requires program { IsLocal program }
-    requires subcommand { IsLocal subcommand }
-    ensures app { IfOk result (λ whole. app_of whole ≡ with_subcommand (app_of program.entry) (shape_of subcommand.entry)) }
-    ensures local { IfOk result IsLocal }
-    ensures memory { IfErr result (λ error. kind_of error ≡ ErrorKind.OutOfMemory) }
-{
-    Ok(program.subcommand(subcommand)?)
-}
-
-fn built_command<'a>(alloc: Global, usage: &Usage) -> Result<Command<'a>, clap::Error>
-    ensures shape { IfOk result (λ command. shape_of command ≡ command_seen usage.now) }
-    ensures local { IfOk result IsLocal }
-    ensures memory { IfErr result (λ error. kind_of error ≡ ErrorKind.OutOfMemory) }
+    usage: &Usage,
+) -> Result<Command<'a>, AllocError>
+    requires { IsLocal program }
+    ensures { Builds (with_subcommand (app_of program.entry) (command_seen usage.now)) result }
 {
     let command = Command::new(alloc, usage.name).about(usage.about);
-    with_arguments(alloc, command, usage.arguments)
+    program.subcommand(with_arguments(alloc, command, usage.arguments)?)
 }
 
 fn with_arguments<'a>(
     alloc: Global,
     command: Command<'a>,
     arguments: &[Argument],
-) -> Result<Command<'a>, clap::Error>
+) -> Result<Command<'a>, AllocError>
     requires { IsLocal command }
-    ensures app { IfOk result (λ whole. app_of whole ≡ with_arguments (app_of command.entry) arguments.now) }
-    ensures local { IfOk result IsLocal }
-    ensures memory { IfErr result (λ error. kind_of error ≡ ErrorKind.OutOfMemory) }
+    ensures { Builds (with_arguments (app_of command.entry) arguments.now) result }
 {
     let mut command = command;
     for argument in arguments {
@@ -351,15 +329,16 @@ fn with_arguments<'a>(
 }
 
 fn built_argument<'a>(alloc: Global, argument: &Argument) -> Arg<'a>
-    ensures rule { rule_of result ≡ rule_seen argument.now }
-    ensures local { result.global ≡ false }
+    ensures { (rule_of result ≡ rule_seen argument.now) × (result.global ≡ false) }
 {
     let arg = Arg::new(alloc, argument.name).help(argument.help);
     match argument.takes {
-        Takes::OneWord => arg.required(true).action(ArgAction::Set),
-        Takes::MaybeOneWord => arg.action(ArgAction::Set),
-        Takes::Words => arg.required(true).num_args(1..).action(ArgAction::Append),
-        Takes::MaybeWords => arg.num_args(1..).action(ArgAction::Append),
+        Takes::Word { is_required } => arg.required(is_required).action(ArgAction::Set),
+        Takes::Words { is_required } => {
+            arg.required(is_required)
+                .num_args(1..)
+                .action(ArgAction::Append)
+        }
         Takes::Nothing => arg.long(argument.name).action(ArgAction::SetTrue),
         Takes::OptionWord => arg.long(argument.name).value_name("RULE"),
         Takes::Nodes => {

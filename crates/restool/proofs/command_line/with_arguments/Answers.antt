@@ -15,14 +15,16 @@ loop-argument-preserved c =
     let added = c.in_ok-command.ensures in
     let built = c.built_argument.ensures in
     record {
-      local = added.globals ∙ ap (λ (before : Bool). before || c.built_argument.result.global) c.loop-argument.invariant.local ∙ built.local;
+      local = added.globals ∙ ap (λ (before : Bool). before || c.built_argument.result.global) c.loop-argument.invariant.local ∙ built.1;
       whole =
-          rw (added.shape built.local, built.rule)
+          rw (added.shape built.1, built.0)
           (next_argument (app_of c.loop-argument.command) c.loop-argument.argument-index c.args.arguments.now _ (omega arith)
           ∙ c.loop-argument.invariant.whole);
     }
 
-pub returns-clause-app : goal.returns-clause-app
-returns-clause-app c =
-    sym (ap (with_arguments (app_of c.loop-argument.command)) (drop_all c.loop-argument.argument-index c.args.arguments.now c.loop-argument-test.false))
-    ∙ c.loop-argument.invariant.whole
+pub returns : goal.returns
+returns c = (
+  sym (ap (with_arguments (app_of c.loop-argument.command)) (drop_all c.loop-argument.argument-index c.args.arguments.now c.loop-argument-test.false))
+      ∙ c.loop-argument.invariant.whole,
+  c.loop-argument.invariant.local,
+)

@@ -12,14 +12,16 @@ next_command app place all d on = sym (ap (with_commands app) (drop_more all pla
 
 pub loop-usage-preserved : goal.loop-usage-preserved
 loop-usage-preserved c = record {
-  local = c.in_ok-program.ensures.local;
+  local = c.in_ok-program.ensures.1;
   whole =
-      rw (c.in_ok-program.ensures.app, c.in_ok-built.ensures.shape)
+      rw c.in_ok-program.ensures.0
       (next_command (app_of c.loop-usage.program) c.loop-usage.usage-index c.args.usages.now _ (omega arith)
       ∙ c.loop-usage.invariant.whole);
 }
 
-pub returns-clause-app : goal.returns-clause-app
-returns-clause-app c =
-    sym (ap (with_commands (app_of c.loop-usage.program)) (drop_all c.loop-usage.usage-index c.args.usages.now c.loop-usage-test.false))
-    ∙ c.loop-usage.invariant.whole
+pub returns : goal.returns
+returns c = (
+  sym (ap (with_commands (app_of c.loop-usage.program)) (drop_all c.loop-usage.usage-index c.args.usages.now c.loop-usage-test.false))
+      ∙ c.loop-usage.invariant.whole,
+  c.loop-usage.invariant.local,
+)
