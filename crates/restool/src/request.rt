@@ -5,7 +5,7 @@ ghost use Rattle.std.specs.Prelude.{◌≡◌, IfSome};
 ghost use Rattle.clap.specs.Words.{rows_of, found_of};
 ghost use Rattle.resource_tool.specs.command_base.declared.fault.ToolFault.TheVariants.{Write};
 ghost use Rattle.restool.specs.Left.{words_seen};
-ghost use Rattle.restool.specs.Request.{Answers, ReadsCommand, ErrorsGet, layer_words};
+ghost use Rattle.restool.specs.Request.{Answers, IsShowOf, ReadsCommand, ErrorsGet, layer_words};
 ghost use Rattle.resource_tool.specs.command_base.CarriesOut.{IsKept};
 
 use crate::argument_fault::ArgumentFault;
@@ -266,12 +266,7 @@ pub(crate) fn request_of<'a>(
             layers: given_word(given, &LAYERS),
         })),
         Command::Survey => survey_of(given),
-        Command::Show => Ok(Request::Show(Show {
-            layers: given_word(given, &LAYERS),
-            certificate: given_word(given, &CERTIFICATE),
-            form: given_form(given),
-            pictured: given_goal_number(given),
-        })),
+        Command::Show => Ok(show_of(given)),
         Command::Query => query_of(alloc, given),
         Command::Explain => explain_of(given),
         Command::Bag => bag_of(given),
@@ -294,6 +289,17 @@ fn survey_of<'a>(given: &ArgMatches<'a>) -> Result<Request<'a>, ArgumentFault<'a
         box_path: given_maybe_word(given, &MAYBE_BOX),
         locales,
     }))
+}
+
+fn show_of<'a>(given: &ArgMatches<'a>) -> Request<'a>
+    ensures { IsShowOf (rows_of (found_of given.now)) result }
+{
+    Request::Show(Show {
+        layers: given_word(given, &LAYERS),
+        certificate: given_word(given, &CERTIFICATE),
+        form: given_form(given),
+        pictured: given_goal_number(given),
+    })
 }
 
 fn query_of<'a>(alloc: Global, given: &ArgMatches<'a>) -> Result<Request<'a>, ArgumentFault<'a>>

@@ -51,6 +51,56 @@ returns-in-Unused-clause-answers g c = rw c.in-Unused.is c.answer-in-Unused.ensu
 pub returns-in-Device-clause-answers : goal.returns-in-Device-clause-answers
 returns-in-Device-clause-answers g c = rw c.in-Device.is c.answer-in-Device.ensures.answers
 
+-- ---- nothing is written where there is no answer
+
+pub returns-in-Rows-clause-unwritten : goal.returns-in-Rows-clause-unwritten
+returns-in-Rows-clause-unwritten g c = c.answer.ensures.unwritten
+
+pub returns-in-Dump-clause-unwritten : goal.returns-in-Dump-clause-unwritten
+returns-in-Dump-clause-unwritten g c = c.answer-in-Dump.ensures.unwritten
+
+pub returns-in-Map-clause-unwritten : goal.returns-in-Map-clause-unwritten
+returns-in-Map-clause-unwritten g c = c.answer-in-Map.ensures.unwritten
+
+pub returns-in-Ids-clause-unwritten : goal.returns-in-Ids-clause-unwritten
+returns-in-Ids-clause-unwritten g c = c.answer-in-Ids.ensures.unwritten
+
+pub returns-in-Survey-clause-unwritten : goal.returns-in-Survey-clause-unwritten
+returns-in-Survey-clause-unwritten g c = c.answer-in-Survey.ensures.unwritten
+
+pub returns-in-Show-clause-unwritten : goal.returns-in-Show-clause-unwritten
+returns-in-Show-clause-unwritten g c = c.answer-in-Show.ensures.unwritten
+
+pub returns-in-Query-clause-unwritten : goal.returns-in-Query-clause-unwritten
+returns-in-Query-clause-unwritten g c = c.answer-in-Query.ensures.unwritten
+
+pub returns-in-Explain-clause-unwritten : goal.returns-in-Explain-clause-unwritten
+returns-in-Explain-clause-unwritten g c = c.answer-in-Explain.ensures.unwritten
+
+pub returns-in-Bag-clause-unwritten : goal.returns-in-Bag-clause-unwritten
+returns-in-Bag-clause-unwritten g c = c.answer-in-Bag.ensures.unwritten
+
+pub returns-in-Attr-clause-unwritten : goal.returns-in-Attr-clause-unwritten
+returns-in-Attr-clause-unwritten g c = c.answer-in-Attr.ensures.unwritten
+
+pub returns-in-Make-clause-unwritten : goal.returns-in-Make-clause-unwritten
+returns-in-Make-clause-unwritten g c = c.answer-in-Make.ensures.unwritten
+
+pub returns-in-Check-clause-unwritten : goal.returns-in-Check-clause-unwritten
+returns-in-Check-clause-unwritten g c = c.answer-in-Check.ensures.unwritten
+
+pub returns-in-Diff-clause-unwritten : goal.returns-in-Diff-clause-unwritten
+returns-in-Diff-clause-unwritten g c = c.answer-in-Diff.ensures.unwritten
+
+pub returns-in-Values-clause-unwritten : goal.returns-in-Values-clause-unwritten
+returns-in-Values-clause-unwritten g c = c.answer-in-Values.ensures.unwritten
+
+pub returns-in-Unused-clause-unwritten : goal.returns-in-Unused-clause-unwritten
+returns-in-Unused-clause-unwritten g c = c.answer-in-Unused.ensures.unwritten
+
+pub returns-in-Device-clause-unwritten : goal.returns-in-Device-clause-unwritten
+returns-in-Device-clause-unwritten g c = c.answer-in-Device.ensures.unwritten
+
 -- ---- what errors get
 
 pub returns-in-Rows-clause-shows : goal.returns-in-Rows-clause-shows

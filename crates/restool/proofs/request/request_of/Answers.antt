@@ -19,7 +19,7 @@ pub returns-in-Ids : goal.returns-in-Ids
 returns-in-Ids c = rw c.in-Ids.is c.given_word-in-Ids.ensures
 
 pub returns-in-Show : goal.returns-in-Show
-returns-in-Show c = rw c.in-Show.is (c.given_word-in-Show.ensures, c.given_word-in-Show-2.ensures, c.given_form.ensures, c.given_goal_number.ensures)
+returns-in-Show c = rw c.in-Show.is c.show_of.ensures
 
 -- ---- a function reads them
 
