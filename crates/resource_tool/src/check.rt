@@ -97,7 +97,7 @@ impl<'a> Check<'a> {
 
 /// The bytes of layers, of a box and of a certificate, and the words of goals.
 #[derive(Drop)]
-struct CheckFiles {
+pub struct CheckFiles {
     layers: LayerFiles,
     box_json: Vec<u8>,
     certificate: Vec<u8>,
@@ -107,7 +107,7 @@ struct CheckFiles {
 impl CheckFiles {
     /// Reads a list of layers with the files that it names, then a box, a certificate, and the files of words.
     #[tactic(auto, unfolding(crate::specs::Check::check_files))]
-    fn read<'a, I: Inputs>(
+    pub fn read<'a, I: Inputs>(
         alloc: Global,
         inputs: &I,
         layers_path: &'a str,
@@ -132,16 +132,16 @@ impl CheckFiles {
 
 /// Layers, a box and a certificate that were opened, and the goals that are asked for.
 #[derive(Drop)]
-struct OpenCheck<'a> {
-    opened: OpenedCert<'a>,
-    goals: Vec<Goal>,
+pub struct OpenCheck<'a> {
+    pub opened: OpenedCert<'a>,
+    pub goals: Vec<Goal>,
 }
 
 impl<'a> OpenCheck<'a> {
     /// Reads the words, opens the layers, reads the box and the certificate, and then finds what the words ask for: the first
     /// goals, one more than the certificate has trees. Where there are more, its list is another one.
     #[tactic(auto, unfolding(crate::specs::Check::check_opened))]
-    fn open(
+    pub fn open(
         alloc: Global,
         files: &'a CheckFiles,
         rule: LocaleRule,

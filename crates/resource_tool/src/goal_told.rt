@@ -60,8 +60,9 @@ fn write_goal_line<W: Write + Drop>(
     out.write_all(b"\n")
 }
 
+/// Writes a goal as words ask for it, with the names of its ids.
 #[tactic(auto, unfolding(crate::specs::GoalTold::named_words))]
-fn write_named_words<W: Write + Drop>(
+pub fn write_named_words<W: Write + Drop>(
     stack: &StackNames<'_, '_>,
     goal: &Goal,
     out: &mut W,

@@ -74,7 +74,7 @@ mod verdict_told;
 pub use answered::Answered;
 pub use attr::{Attr, attr_bytes};
 pub use bag::{Bag, bag_bytes};
-pub use check::{Check, OpenedCert, check_bytes};
+pub use check::{Check, CheckFiles, OpenCheck, OpenedCert, check_bytes};
 pub use command_base::{
     ExitStatus, GoalFault, InputFault, Inputs, LayerList, LayerParts, LayersFault, LocaleRule,
     Named, NamedGoal, NamedSet, ProcessInputs, STANDARD_INPUT, Status, Stop, ToolFault, fault_text,
@@ -83,7 +83,7 @@ pub use command_base::{
 pub use device::DeviceForm;
 pub use dump::{Dump, dump_bytes};
 pub use explain::{Explain, explain_bytes};
-pub use goal_told::write_goal_told;
+pub use goal_told::{write_goal_told, write_named_words};
 pub use ids::{Ids, ids_bytes};
 pub use make::{Make, make_bytes, make_bytes_watched};
 pub use map::{Map, map_bytes};

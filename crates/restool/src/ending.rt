@@ -27,7 +27,7 @@ pub struct Reported {
 /// Says why the program stops, if it does, and on a terminal maybe what a person may try, and gives the exit status.
 pub fn end<E: Write + Drop>(
     outcome: Result<Status, Stop<'_>>,
-    hint: Option<&str>,
+    hint: Option<&[u8]>,
     is_terminal: bool,
     errors: &mut E,
 ) -> Reported
@@ -47,13 +47,13 @@ pub fn end<E: Write + Drop>(
 }
 
 /// What may be said on a terminal alone.
-pub(crate) fn where_terminal(is_terminal: bool, hint: Option<&str>) -> Option<&str>
+pub(crate) fn where_terminal(is_terminal: bool, hint: Option<&[u8]>) -> Option<&[u8]>
     ensures { is_terminal ≡ false → result ≡ None }
 {
     if is_terminal { hint } else { None }
 }
 
-fn tell<E: Write + Drop>(stop: &Stop<'_>, hint: Option<&str>, errors: &mut E) -> io::Result<()>
+fn tell<E: Write + Drop>(stop: &Stop<'_>, hint: Option<&[u8]>, errors: &mut E) -> io::Result<()>
     ensures { Writes E.contents errors.old errors.new result
         (stop_line (stop_of stop.now) ++ hint_line (option_map (λ hint. hint.now) hint.entry)) }
 {
@@ -62,7 +62,7 @@ fn tell<E: Write + Drop>(stop: &Stop<'_>, hint: Option<&str>, errors: &mut E) ->
 }
 
 /// Writes a line with what a person may try, where there is something.
-pub(crate) fn write_hint<E: Write + Drop>(hint: Option<&str>, errors: &mut E) -> io::Result<()>
+pub(crate) fn write_hint<E: Write + Drop>(hint: Option<&[u8]>, errors: &mut E) -> io::Result<()>
     ensures line { Writes E.contents errors.old errors.new result (hint_line (option_map (λ hint. hint.now) hint.entry)) }
     ensures nothing { hint.entry ≡ None → errors.new ≡ errors.old }
 {
@@ -70,7 +70,7 @@ pub(crate) fn write_hint<E: Write + Drop>(hint: Option<&str>, errors: &mut E) ->
         return Ok(());
     };
     errors.write_all(b"hint: ")?;
-    write_in_one_line(hint.as_bytes(), errors)?;
+    write_in_one_line(hint, errors)?;
     errors.write_all(b"\n")
 }
 

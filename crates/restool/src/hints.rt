@@ -8,26 +8,27 @@ mod boxes;
 mod content;
 mod devices;
 mod goal_lists;
+mod goal_words;
 mod json_texts;
 mod kinds;
 mod layer_files;
 mod layers;
 mod locale_texts;
 mod members;
-mod named_files;
 mod near_names;
 mod nearest;
 mod overlays;
 mod qualifiers;
+mod request_parts;
 mod text;
 mod verdicts;
 mod words;
 
-use crate::hints::devices::hint_of_part;
-use crate::hints::named_files::NamedFiles;
-use crate::hints::near_names::hint_of_bare;
-use crate::hints::text::text_of;
-use crate::hints::words::hint_of_bad_id;
+use crate::hints::devices::say_part;
+use crate::hints::near_names::say_bare;
+use crate::hints::request_parts::RequestParts;
+use crate::hints::text::Hint;
+use crate::hints::words::say_bad_id;
 use crate::request::Request;
 use crate::words_fault::WordsFault;
 use command_base::{Coord, Inputs, Status, Stop};
@@ -64,23 +65,19 @@ pub(crate) fn hint_of<I: Inputs>(
     inputs: &I,
     request: &Request<'_>,
     ended: &CommandEnd<'_, '_>,
-) -> Option<String> {
+) -> Option<Vec<u8>> {
     let asked = Asked {
         alloc,
         inputs,
-        files: NamedFiles::of(request),
+        parts: RequestParts::of(request),
     };
+    let mut hint = Hint::new(alloc);
     match ended.outcome {
-        Ok(Status::Done) => asked.hint_of_overlays(ended.left),
-        Ok(Status::Negative) => match asked.hint_of_answer(request, ended) {
-            Some(hint) => Some(hint),
-            None => asked.hint_of_overlays(ended.left),
-        },
-        Err(stop) => match asked.hint_of_stop(stop) {
-            Some(hint) => Some(hint),
-            None => text_of(alloc, &[stop.hint()?]),
-        },
+        Ok(Status::Done) => asked.say_overlays(ended.left, &mut hint),
+        Ok(Status::Negative) => asked.say_negative(request, ended, &mut hint),
+        Err(stop) => asked.say_stop(stop, &mut hint),
     }
+    hint.whole()
 }
 
 /// A hint for words of the command line that ask for nothing.
@@ -89,15 +86,19 @@ pub(crate) fn hint_of_words<I: Inputs>(
     inputs: &I,
     words: &[String],
     fault: &WordsFault<'_>,
-) -> Option<String> {
+) -> Option<Vec<u8>> {
+    let mut hint = Hint::new(alloc);
     match fault {
-        WordsFault::BadRule(_) => text_of(alloc, &["write --locales android, or leave it out"]),
-        WordsFault::BadId(word) => match hint_of_bad_id(alloc, word) {
-            Some(hint) => Some(hint),
-            None => hint_of_bare(alloc, inputs, words, word),
-        },
-        _ => None,
+        WordsFault::BadRule(_) => hint.say(b"write --locales android, or leave it out"),
+        WordsFault::BadId(word) => {
+            say_bad_id(alloc, word, &mut hint);
+            if hint.is_empty() {
+                say_bare(alloc, inputs, words, word, &mut hint);
+            }
+        }
+        _ => {}
     }
+    hint.whole()
 }
 
 /// What the words of a request name, and what these files have.
@@ -105,26 +106,39 @@ pub(crate) fn hint_of_words<I: Inputs>(
 pub(crate) struct Asked<'t, 'a, I> {
     pub alloc: Global,
     pub inputs: &'t I,
-    pub files: NamedFiles<'t, 'a>,
+    pub parts: RequestParts<'t, 'a>,
 }
 
 impl<I: Inputs> Asked<'_, '_, I> {
-    fn hint_of_stop(&self, stop: &Stop<'_>) -> Option<String> {
+    fn say_negative(&self, request: &Request<'_>, ended: &CommandEnd<'_, '_>, hint: &mut Hint) {
+        self.say_answer(request, ended, hint);
+        if hint.is_empty() {
+            self.say_overlays(ended.left, hint);
+        }
+    }
+
+    fn say_stop(&self, stop: &Stop<'_>, hint: &mut Hint) {
+        self.say_why(stop, hint);
+        if hint.is_empty()
+            && let Some(said) = stop.hint()
+        {
+            hint.say_text(said);
+        }
+    }
+
+    // What the files tell of it.
+    fn say_why(&self, stop: &Stop<'_>, hint: &mut Hint) {
         match stop {
-            Stop::File(path) => self.hint_of_no_file(path),
-            Stop::LayerFile(path) => self.hint_of_unread(path.as_str()),
-            Stop::WordOfFile(word) => {
-                let word = word.as_str();
-                self.hint_of_word(word, hint_of_bad_id(self.alloc, word))
+            Stop::File(path) => self.say_no_file(path, hint),
+            Stop::LayerFile(path) => self.say_unread(path.as_str(), hint),
+            Stop::WordOfFile(word) => self.say_word_of_file(word.as_str(), hint),
+            Stop::NoResource(name) => self.say_no_resource(name.as_str(), hint),
+            Stop::NoWord(Coord::UiType) => {
+                hint.say(b"give \"uiType\":1, which a line means that names no kind of device");
             }
-            Stop::NoResource(name) => self.hint_of_no_resource(name.as_str()),
-            Stop::NoWord(Coord::UiType) => text_of(
-                self.alloc,
-                &["give \"uiType\":1, which a line means that names no kind of device"],
-            ),
-            Stop::DevicePart(part) => hint_of_part(self.alloc, self.files.rule, part),
-            Stop::Tool(fault) => self.hint_of_fault(*fault),
-            _ => None,
+            Stop::DevicePart(part) => say_part(self.alloc, self.parts.rule, part, hint),
+            Stop::Tool(fault) => self.say_fault(*fault, hint),
+            _ => {}
         }
     }
 }

@@ -25,7 +25,8 @@ use clap::ArgMatches;
 use diff_command::{Diff, Unused, Values};
 use report_commands::{Show, Survey};
 use resource_tool::{
-    Attr, Bag, Check, DeviceForm, Dump, Explain, Ids, Inputs, Make, Map, Query, Rows, Status, Stop, Watch,
+    Attr, Bag, Check, DeviceForm, Dump, Explain, Ids, Inputs, Make, Map, Query, Rows, Status, Stop,
+    Watch,
 };
 use std::alloc::Global;
 use std::io::Write;

@@ -107,7 +107,7 @@ fn tell_fault<I: Inputs, O: Write + Drop, E: Write + Drop>(
 struct Carried<'a, O> {
     outcome: Result<Status, Stop<'a>>,
     /// What a person may try.
-    hint: Option<String>,
+    hint: Option<Vec<u8>>,
     /// The output, as it was left.
     out: O,
 }

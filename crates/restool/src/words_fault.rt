@@ -36,7 +36,7 @@ impl WordsFault<'_> {
     /// Says why, on the stream where that belongs, and on a terminal maybe what a person may try, and gives the exit status.
     pub fn report<O: Write + Drop, E: Write + Drop>(
         &self,
-        hint: Option<&str>,
+        hint: Option<&[u8]>,
         is_terminal: bool,
         out: &mut O,
         errors: &mut E,
@@ -57,7 +57,7 @@ impl WordsFault<'_> {
 
     fn write<O: Write + Drop, E: Write + Drop>(
         &self,
-        hint: Option<&str>,
+        hint: Option<&[u8]>,
         out: &mut O,
         errors: &mut E,
     ) -> io::Result<()>

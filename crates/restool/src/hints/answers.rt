@@ -1,13 +1,11 @@
 //! Hints behind answers that say no.
 
 use crate::command_line::MOST_NODES;
-use crate::hints::text::Piece::{Number, Text};
-use crate::hints::text::{text_of, text_with};
+use crate::hints::text::Hint;
 use crate::hints::{Asked, CommandEnd};
 use crate::request::Request;
 use command_base::Inputs;
 use resource_tool::Reached;
-use std::alloc::Global;
 
 /// What is printed where trees have too many nodes.
 const NODE_LIMIT: &[u8] = b"node limit\n";
@@ -22,88 +20,70 @@ const NOTHING_MAPS: &[u8] = b"[]\n";
 const MORE: u32 = 10;
 
 impl<I: Inputs> Asked<'_, '_, I> {
-    /// A hint behind what a command wrote to its output.
-    pub(crate) fn hint_of_answer(
+    /// Says what a person may try behind what a command wrote to its output.
+    pub(crate) fn say_answer(
         &self,
         request: &Request<'_>,
         ended: &CommandEnd<'_, '_>,
-    ) -> Option<String> {
+        hint: &mut Hint,
+    ) {
         let said = ended.said;
-        if said == NODE_LIMIT {
-            return hint_of_limit(self.alloc, request, ended.reached);
-        }
-        let hint = match request {
+        match request {
+            Request::Make(make) if said == NODE_LIMIT => {
+                say_limit(make.max_nodes, b" goals", ended.reached, hint);
+            }
+            Request::Diff(diff) if said == NODE_LIMIT => {
+                say_limit(diff.max_nodes, b" names", ended.reached, hint);
+            }
+            Request::Values(values) if said == NODE_LIMIT => {
+                say_limit(values.max_nodes, b" names", ended.reached, hint);
+            }
+            Request::Unused(unused) if said == NODE_LIMIT => {
+                say_more_nodes(unused.max_nodes, b" names", hint);
+            }
             Request::Make(_) if said.starts_with(COUNTEREXAMPLE) => {
-                "--omit leaves out goals without a value on some device, and tells them"
+                hint.say(b"--omit leaves out goals without a value on some device, and tells them");
             }
             Request::Map(_) if said == NOTHING_MAPS => {
-                "nothing of the overlay maps: is it made for this target?"
+                hint.say(b"nothing of the overlay maps: is it made for this target?");
             }
-            Request::Check(check) => return self.hint_of_verdict(check, said),
-            _ => return None,
-        };
-        text_of(self.alloc, &[hint])
+            Request::Check(check) => self.say_verdict(check, said, hint),
+            _ => {}
+        }
     }
 }
 
-// How far it came over goals or names, where that is known, and what allows more.
-fn hint_of_limit(alloc: Global, request: &Request<'_>, reached: Reached) -> Option<String> {
-    let (most, what) = match request {
-        Request::Make(make) => (make.max_nodes, "goals"),
-        Request::Diff(diff) => (diff.max_nodes, "names"),
-        Request::Values(values) => (values.max_nodes, "names"),
-        Request::Unused(unused) => return more_nodes(alloc, unused.max_nodes, "names"),
-        _ => return None,
-    };
-    let came = came_so_far(alloc, most, what, reached)?;
-    let more = more_nodes(alloc, most, what)?;
-    text_of(alloc, &[came.as_str(), "; ", more.as_str()])
+// How far it came over goals or names, and what allows more.
+fn say_limit(most: u32, what: &[u8], reached: Reached, hint: &mut Hint) {
+    if reached.done == 0 && reached.all > most as usize {
+        hint.say(b"there are more");
+        hint.say(what);
+        hint.say(b" than ");
+        hint.say_number(u64::from(most));
+        hint.say(b", the limit of nodes; ");
+    } else {
+        hint.say_number(reached.done as u64);
+        hint.say(b" of ");
+        hint.say_number(reached.all as u64);
+        hint.say(what);
+        hint.say(b" were done with at most ");
+        hint.say_number(u64::from(most));
+        hint.say(b" nodes; ");
+    }
+    say_more_nodes(most, what, hint);
 }
 
 // What allows more nodes than these, or needs fewer.
-fn more_nodes(alloc: Global, most: u32, what: &str) -> Option<String> {
+fn say_more_nodes(most: u32, what: &[u8], hint: &mut Hint) {
     if most >= MOST_NODES {
-        let parts = [
-            "ask for fewer ",
-            what,
-            " at a time, or make the box smaller",
-        ];
-        return text_of(alloc, &parts);
+        hint.say(b"ask for fewer");
+        hint.say(what);
+        return hint.say(b" at a time, or make the box smaller");
     }
     let more = most.saturating_mul(MORE).min(MOST_NODES);
-    text_with(
-        alloc,
-        &[
-            Text("--max-nodes "),
-            Number(u64::from(more)),
-            Text(" allows more, fewer "),
-            Text(what),
-            Text(" or a smaller box need less"),
-        ],
-    )
-}
-
-fn came_so_far(alloc: Global, most: u32, what: &str, reached: Reached) -> Option<String> {
-    let limit = Number(u64::from(most));
-    if reached.done == 0 && reached.all > most as usize {
-        let pieces = [
-            Text("there are more "),
-            Text(what),
-            Text(" than "),
-            limit,
-            Text(", the limit of nodes"),
-        ];
-        return text_with(alloc, &pieces);
-    }
-    let pieces = [
-        Number(reached.done as u64),
-        Text(" of "),
-        Number(reached.all as u64),
-        Text(" "),
-        Text(what),
-        Text(" were done with at most "),
-        limit,
-        Text(" nodes"),
-    ];
-    text_with(alloc, &pieces)
+    hint.say(b"--max-nodes ");
+    hint.say_number(u64::from(more));
+    hint.say(b" allows more, fewer");
+    hint.say(what);
+    hint.say(b" or a smaller box need less");
 }

@@ -1,69 +1,60 @@
-//! What is wrong with a box.
+//! What is wrong with a box, and with the numbers of a device too.
 
-use crate::hints::locale_texts::hint_of_locale;
-use crate::hints::members::{
-    Member, coord_named, hint_at_item, hint_at_name, hint_of_name, hint_of_number, hint_of_value,
-    is_short, members_of,
-};
-use crate::hints::qualifiers::{meaning, name_of};
-use crate::hints::text::Piece::{Number, Text};
-use crate::hints::text::{text_of, text_with};
-use command_base::{BoxFault, Coord, LocaleRule};
+use crate::hints::locale_texts::say_locales;
+use crate::hints::members::{Member, coord_named, say_no_number, say_no_qualifier};
+use crate::hints::qualifiers::{meaning, say_takes};
+use crate::hints::text::Hint;
+use command_base::{Coord, LocaleRule};
 use json_input::list_of;
-use locales::read_locale;
 use serde_json::Value;
 use std::alloc::Global;
 
 /// The names of the members of a range.
 const ENDS: &[&str] = &["from", "to"];
 
-/// What is wrong with the value of a box that has a fault.
-pub(crate) fn hint_of_box(
+/// Says what is wrong with the densities of a box.
+pub(crate) fn say_densities(value: &Value, hint: &mut Hint) {
+    say_outside(value, Coord::Density, hint);
+    if hint.is_empty() {
+        hint.say(
+            b"give the densities, as \"density\":[160,320] or \"density\":{\"from\":120,\"to\":640}",
+        );
+    }
+}
+
+/// Says what no device has at a qualifier, of a device or of a box.
+pub(crate) fn say_range(
     alloc: Global,
     value: &Value,
+    coord: Coord,
     rule: LocaleRule,
-    fault: BoxFault,
-) -> Option<String> {
-    match fault {
-        BoxFault::Shape => hint_of_shape(alloc, &members_of(alloc, value)?),
-        BoxFault::FieldRange(Coord::Locale) => hint_of_locales(alloc, value, rule),
-        BoxFault::FieldRange(coord) => hint_of_range(alloc, value, coord),
-        BoxFault::Density => hint_of_density(alloc, value),
-        _ => None,
+    hint: &mut Hint,
+) {
+    match coord {
+        Coord::Locale => say_locales(alloc, value.get(coord.name()), rule, hint),
+        _ => say_outside(value, coord, hint),
     }
 }
 
-fn hint_of_density(alloc: Global, value: &Value) -> Option<String> {
-    match hint_of_range(alloc, value, Coord::Density) {
-        Some(hint) => Some(hint),
-        None => text_of(
-            alloc,
-            &[
-                "give the densities, as \"density\":[160,320] or \"density\":{\"from\":120,\"to\":640}",
-            ],
-        ),
+/// The same of a number.
+pub(crate) fn say_outside(value: &Value, coord: Coord, hint: &mut Hint) {
+    if let Some(number) = outside_in(value, coord) {
+        hint.say_quoted(coord.name());
+        hint.say(b" is never ");
+        hint.say_number(number);
+        hint.say(b": ");
+        hint.say(meaning(coord));
     }
 }
 
-// The first text that gives no locale.
-fn hint_of_locales(alloc: Global, value: &Value, rule: LocaleRule) -> Option<String> {
-    for item in list_of(value.get(Coord::Locale.name())?)? {
-        let text = item.as_str()?;
-        if read_locale(text, rule).is_err() && is_short(text) {
-            return hint_of_locale(alloc, text, rule);
-        }
-    }
-    None
-}
-
-// The first number that no device has.
-fn hint_of_range(alloc: Global, value: &Value, coord: Coord) -> Option<String> {
+// The number of a device, or the first in a list or a range that no device has.
+fn outside_in(value: &Value, coord: Coord) -> Option<u64> {
     let value = value.get(coord.name())?;
-    let number = match list_of(value) {
-        Some(items) => outside_among(coord, items)?,
-        None => outside_in_range(coord, value)?,
-    };
-    hint_of_number(alloc, coord, number)
+    match (value.as_u64(), list_of(value)) {
+        (Some(number), _) => Some(number),
+        (None, Some(items)) => outside_among(coord, items),
+        (None, None) => outside_in_range(coord, value),
+    }
 }
 
 fn outside_among(coord: Coord, items: &[Value]) -> Option<u64> {
@@ -86,30 +77,29 @@ fn outside_in_range(coord: Coord, range: &Value) -> Option<u64> {
     None
 }
 
-// The first member that is not as it has to be.
-fn hint_of_shape(alloc: Global, members: &[Member<'_>]) -> Option<String> {
+/// Says of the first member of a box that is not as it has to be what is wrong.
+pub(crate) fn say_box(alloc: Global, members: &[Member<'_>], hint: &mut Hint) {
     for member in members {
         let Some(coord) = coord_named(member.name) else {
-            return hint_of_name(alloc, member.name);
+            return say_no_qualifier(alloc, member.name, hint);
         };
-        let hint = hint_of_member(alloc, coord, member.value);
-        if hint.is_some() {
-            return hint;
+        say_set(alloc, coord, member.value, hint);
+        if !hint.is_empty() {
+            return;
         }
     }
-    None
 }
 
-fn hint_of_member(alloc: Global, coord: Coord, value: &Value) -> Option<String> {
+// What is wrong with the value of a qualifier.
+fn say_set(alloc: Global, coord: Coord, value: &Value, hint: &mut Hint) {
     match (coord, list_of(value)) {
-        (Coord::Locale, Some(items)) if are_texts(items) => None,
-        (Coord::Locale, _) => text_of(
-            alloc,
-            &["\"locale\" takes a list of texts, as [\"es-MX\",\"de\"]"],
-        ),
-        (_, Some(items)) => hint_of_items(alloc, coord, items),
-        (_, None) if is_range(value) => hint_of_ends(alloc, coord, value),
-        (_, None) => hint_of_other(alloc, coord, value),
+        (Coord::Locale, Some(items)) if are_texts(items) => {}
+        (Coord::Locale, _) => {
+            hint.say(b"\"locale\" takes a list of texts, as [\"es-MX\",\"de\"]");
+        }
+        (_, Some(items)) => say_items(alloc, coord, items, hint),
+        (_, None) if is_range(value) => say_ends(alloc, coord, value, hint),
+        (_, None) => say_no_set(coord, value, hint),
     }
 }
 
@@ -132,64 +122,46 @@ fn is_range(value: &Value) -> bool {
 }
 
 // The first item that is no number, with its place.
-fn hint_of_items(alloc: Global, coord: Coord, items: &[Value]) -> Option<String> {
+fn say_items(alloc: Global, coord: Coord, items: &[Value], hint: &mut Hint) {
     for (place, item) in items.iter().enumerate() {
         if item.as_u64().is_none() {
-            let hint = hint_of_value(alloc, coord, item)?;
-            return hint_at_item(alloc, place, ": ", hint.as_str());
+            hint.say(b"item ");
+            hint.say_number(place as u64);
+            hint.say(b": ");
+            return say_no_number(alloc, coord, item, hint);
         }
     }
-    None
 }
 
-// The first end that is no number.
-fn hint_of_ends(alloc: Global, coord: Coord, range: &Value) -> Option<String> {
+// The first end that is no number, or that there are other members too.
+fn say_ends(alloc: Global, coord: Coord, range: &Value, hint: &mut Hint) {
     for end in ENDS {
-        let value = range.get(*end)?;
-        if value.as_u64().is_none() {
-            return hint_of_end(alloc, coord, *end, value);
+        if let Some(value) = range.get(*end)
+            && value.as_u64().is_none()
+        {
+            hint.say_text(*end);
+            hint.say(b": ");
+            return say_no_number(alloc, coord, value, hint);
         }
     }
-    hint_of_more(alloc, coord.name())
-}
-
-fn hint_of_end(alloc: Global, coord: Coord, end: &str, value: &Value) -> Option<String> {
-    let hint = hint_of_value(alloc, coord, value)?;
-    text_of(alloc, &[end, ": ", hint.as_str()])
-}
-
-// A range with other members too.
-fn hint_of_more(alloc: Global, name: &str) -> Option<String> {
-    text_of(
-        alloc,
-        &[
-            "a range at \"",
-            name,
-            "\" has from and to, and nothing else",
-        ],
-    )
+    hint.say(b"a range at ");
+    hint.say_quoted(coord.name());
+    hint.say(b" has from and to, and nothing else");
 }
 
 // What is neither a list nor a range.
-fn hint_of_other(alloc: Global, coord: Coord, value: &Value) -> Option<String> {
+fn say_no_set(coord: Coord, value: &Value, hint: &mut Hint) {
     match value.as_u64() {
-        Some(number) => hint_of_single(alloc, coord, number),
-        None => {
-            let takes = "\" takes a list or a range, {\"from\":1,\"to\":2}: ";
-            hint_at_name(alloc, coord.name(), takes, meaning(coord))
+        Some(number) => {
+            hint.say_quoted(coord.name());
+            hint.say(b" takes a list in a box: [");
+            hint.say_number(number);
+            hint.say(b"]");
         }
+        None => say_takes(
+            coord,
+            b" takes a list or a range, {\"from\":1,\"to\":2}: ",
+            hint,
+        ),
     }
-}
-
-fn hint_of_single(alloc: Global, coord: Coord, number: u64) -> Option<String> {
-    text_with(
-        alloc,
-        &[
-            Text("\""),
-            Text(name_of(coord)),
-            Text("\" takes a list in a box: ["),
-            Number(number),
-            Text("]"),
-        ],
-    )
 }

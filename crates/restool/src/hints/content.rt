@@ -2,9 +2,8 @@
 
 use crate::hints::Asked;
 use crate::hints::kinds::Kind;
-use crate::hints::text::{first_line, text_of};
+use crate::hints::text::{Hint, first_line};
 use command_base::Inputs;
-use std::alloc::Global;
 
 /// What a file was expected to have.
 #[derive(Clone, Copy)]
@@ -35,68 +34,66 @@ enum Content {
 const MOST_BYTES: usize = 100;
 
 impl<I: Inputs> Asked<'_, '_, I> {
-    /// What is said of a file that has something else.
-    pub(crate) fn hint_of_content(&self, expected: Expected, path: &str) -> Option<String> {
-        let bytes = self.inputs.read_again(path)?;
-        instead_of(self.alloc, expected, path, &bytes)
+    /// Says what a file has instead.
+    pub(crate) fn say_content(&self, expected: Expected, path: &str, hint: &mut Hint) {
+        if let Some(bytes) = self.inputs.read_again(path) {
+            say_instead(expected, path, &bytes, hint);
+        }
     }
 }
 
 /// The same of the bytes of a file.
-pub(crate) fn instead_of(
-    alloc: Global,
-    expected: Expected,
-    path: &str,
-    bytes: &[u8],
-) -> Option<String> {
-    let content = content_of(bytes);
-    match (expected, content) {
-        (Expected::Json(Kind::Device), Content::Config) => text_of(
-            alloc,
-            &[
-                "give what am get-config printed itself: \"$(cat ",
-                path,
-                ")\"",
-            ],
-        ),
-        (Expected::Json(Kind::Certificate), Content::NoCertificate) => {
-            printed_by_make(alloc, path, bytes)
+pub(crate) fn say_instead(expected: Expected, path: &str, bytes: &[u8], hint: &mut Hint) {
+    match (expected, content_of(bytes)) {
+        (Expected::Json(Kind::Device), Content::Config) => {
+            hint.say(b"give what am get-config printed itself: \"$(cat ");
+            hint.say_text(path);
+            hint.say(b")\"");
         }
-        _ => text_of(alloc, &[path, said_of(expected, content)?]),
+        (Expected::Json(Kind::Certificate), Content::NoCertificate) => {
+            say_printed(path, bytes, hint);
+        }
+        (expected, content) => {
+            if let Some(said) = said_of(expected, content) {
+                hint.say_text(path);
+                hint.say(said);
+            }
+        }
     }
 }
 
 // What a file is, behind its path.
-fn said_of<'a>(expected: Expected, content: Content) -> Option<&'a str> {
+fn said_of<'a>(expected: Expected, content: Content) -> Option<&'a [u8]> {
     match (expected, content) {
-        (_, Content::Nothing) => Some(" is empty"),
+        (_, Content::Nothing) => Some(b" is empty"),
         (Expected::Json(Kind::Layers) | Expected::Table, Content::Zip) => {
-            Some(" is a zip file; an apk is read where its path ends in .apk")
+            Some(b" is a zip file; an apk is read where its path ends in .apk")
         }
         (Expected::Json(Kind::Layers) | Expected::Apk, Content::Table) => {
-            Some(" is a table; one is read where its path ends in .arsc")
+            Some(b" is a table; one is read where its path ends in .arsc")
         }
-        (Expected::Table | Expected::Apk, Content::Json) => Some(" is a JSON text, and no table"),
+        (Expected::Table | Expected::Apk, Content::Json) => Some(b" is a JSON text, and no table"),
         (Expected::Table | Expected::Apk, Content::Xml) => {
-            Some(" is a binary XML file; the table of an apk is its resources.arsc")
+            Some(b" is a binary XML file; the table of an apk is its resources.arsc")
         }
         (Expected::Table | Expected::Apk, _) => None,
-        (_, Content::Zip) => Some(" is a zip file, and no JSON text"),
-        (_, Content::Table) => Some(" is a table, and no JSON text"),
-        (_, Content::Xml) => Some(" is a binary XML file, and no JSON text"),
+        (_, Content::Zip) => Some(b" is a zip file, and no JSON text"),
+        (_, Content::Table) => Some(b" is a table, and no JSON text"),
+        (_, Content::Xml) => Some(b" is a binary XML file, and no JSON text"),
         _ => None,
     }
 }
 
-fn printed_by_make(alloc: Global, path: &str, bytes: &[u8]) -> Option<String> {
-    let line = first_line(bytes)?;
-    if line.len() > MOST_BYTES {
-        return None;
+// What `make` printed in place of a certificate.
+fn say_printed(path: &str, bytes: &[u8], hint: &mut Hint) {
+    if let Some(line) = first_line(bytes)
+        && line.len() <= MOST_BYTES
+    {
+        hint.say(b"make printed no certificate into ");
+        hint.say_text(path);
+        hint.say(b" but: ");
+        hint.say_text(line);
     }
-    text_of(
-        alloc,
-        &["make printed no certificate into ", path, " but: ", line],
-    )
 }
 
 fn content_of(bytes: &[u8]) -> Content {

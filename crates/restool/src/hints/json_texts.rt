@@ -1,48 +1,51 @@
 //! JSON texts that are not as they have to be.
 
 use crate::hints::Asked;
-use crate::hints::boxes::hint_of_box;
-use crate::hints::content::{Expected, instead_of};
-use crate::hints::devices::{hint_of_device, hint_of_line};
-use crate::hints::kinds::{JsonFile, Kind, hint_of_kind, kind_of};
-use crate::hints::layers::hint_of_layers;
-use crate::hints::named_files::NamedFiles;
-use command_base::{Inputs, LayersFault, LocaleRule, Side, ToolFault};
+use crate::hints::boxes::{say_box, say_densities, say_outside, say_range};
+use crate::hints::content::{Expected, say_instead};
+use crate::hints::devices::{say_device, say_line};
+use crate::hints::kinds::{JsonFile, Kind, kind_of, say_kind};
+use crate::hints::layers::say_layers;
+use crate::hints::members::{Member, members_of};
+use crate::hints::request_parts::RequestParts;
+use crate::hints::text::Hint;
+use command_base::{BoxFault, Coord, DeviceFault, Inputs, LayersFault, Side, ToolFault};
 use config_words::is_printed;
 use json_input::read_value;
 use serde_json::Value;
 use std::alloc::Global;
 
 impl<I: Inputs> Asked<'_, '_, I> {
-    /// What is said of a fault, mostly of a JSON text.
-    pub(crate) fn hint_of_fault(&self, fault: ToolFault) -> Option<String> {
-        let Some(file) = file_with(&self.files, fault) else {
-            return self.hint_of_layer(fault);
+    /// Says what is wrong where there is a fault, mostly of a JSON text.
+    pub(crate) fn say_fault(&self, fault: ToolFault, hint: &mut Hint) {
+        let Some(file) = file_with(&self.parts, fault) else {
+            return self.say_layer(fault, hint);
         };
         match file.expected {
-            Kind::Device if is_printed(file.path) => hint_of_line(self.alloc, fault),
-            _ => self.hint_of_json(file, fault),
+            Kind::Device if is_printed(file.path) => say_line(fault, hint),
+            _ => self.say_json(file, fault, hint),
         }
     }
 
-    fn hint_of_json(&self, file: JsonFile<'_>, fault: ToolFault) -> Option<String> {
-        let JsonFile { expected, path } = file;
-        let bytes = self.inputs.read_again(path)?;
+    fn say_json(&self, file: JsonFile<'_>, fault: ToolFault, hint: &mut Hint) {
+        let Some(bytes) = self.inputs.read_again(file.path) else {
+            return;
+        };
         match read_value(self.alloc, &bytes) {
-            Ok(value) => hint_of_text(self.alloc, &self.files, file, &value, fault),
-            Err(_) => instead_of(self.alloc, Expected::Json(expected), path, &bytes),
+            Ok(value) => say_value(self.alloc, &self.parts, file, &value, fault, hint),
+            Err(_) => say_instead(Expected::Json(file.expected), file.path, &bytes, hint),
         }
     }
 }
 
 // The JSON text that has a fault.
-fn file_with<'a>(files: &NamedFiles<'_, 'a>, fault: ToolFault) -> Option<JsonFile<'a>> {
+fn file_with<'a>(parts: &RequestParts<'_, 'a>, fault: ToolFault) -> Option<JsonFile<'a>> {
     let (expected, path) = match fault {
-        ToolFault::Layers(_) => (Kind::Layers, files.layers(Side::Old)),
-        ToolFault::SideLayers(side, _) => (Kind::Layers, files.layers(side)),
-        ToolFault::Device(_) => (Kind::Device, files.device),
-        ToolFault::Box(_) => (Kind::Box, files.members),
-        ToolFault::Certificate(_) => (Kind::Certificate, files.certificate),
+        ToolFault::Layers(_) => (Kind::Layers, parts.layers(Side::Old)),
+        ToolFault::SideLayers(side, _) => (Kind::Layers, parts.layers(side)),
+        ToolFault::Device(_) => (Kind::Device, parts.device),
+        ToolFault::Box(_) => (Kind::Box, parts.members),
+        ToolFault::Certificate(_) => (Kind::Certificate, parts.certificate),
         _ => return None,
     };
     match path {
@@ -51,32 +54,43 @@ fn file_with<'a>(files: &NamedFiles<'_, 'a>, fault: ToolFault) -> Option<JsonFil
     }
 }
 
-fn hint_of_text(
+// That a text is of another kind than was expected, or else what is wrong with it.
+fn say_value(
     alloc: Global,
-    files: &NamedFiles<'_, '_>,
+    parts: &RequestParts<'_, '_>,
     file: JsonFile<'_>,
     value: &Value,
     fault: ToolFault,
-) -> Option<String> {
-    match kind_of(alloc, value) {
-        Some(kind) if kind != file.expected => hint_of_kind(alloc, files.order, file, kind),
-        _ => hint_of_value(alloc, value, files.rule, fault),
+    hint: &mut Hint,
+) {
+    let members = members_of(alloc, value);
+    let members = members.as_deref().unwrap_or(&[]);
+    match kind_of(value, members) {
+        Some(kind) if kind != file.expected => say_kind(parts.order, file, kind, hint),
+        _ => say_wrong(alloc, parts, value, members, fault, hint),
     }
 }
 
-// What is wrong with a text of the kind that was expected.
-fn hint_of_value(
+fn say_wrong(
     alloc: Global,
+    parts: &RequestParts<'_, '_>,
     value: &Value,
-    rule: LocaleRule,
+    members: &[Member<'_>],
     fault: ToolFault,
-) -> Option<String> {
+    hint: &mut Hint,
+) {
     match fault {
         ToolFault::Layers(LayersFault::Shape) | ToolFault::SideLayers(_, LayersFault::Shape) => {
-            hint_of_layers(alloc, value)
+            say_layers(alloc, value, hint);
         }
-        ToolFault::Device(fault) => hint_of_device(alloc, value, rule, fault),
-        ToolFault::Box(fault) => hint_of_box(alloc, value, rule, fault),
-        _ => None,
+        ToolFault::Device(DeviceFault::Shape) => say_device(alloc, members, hint),
+        ToolFault::Device(DeviceFault::Density) => say_outside(value, Coord::Density, hint),
+        ToolFault::Box(BoxFault::Shape) => say_box(alloc, members, hint),
+        ToolFault::Box(BoxFault::Density) => say_densities(value, hint),
+        ToolFault::Device(DeviceFault::FieldRange(coord))
+        | ToolFault::Box(BoxFault::FieldRange(coord)) => {
+            say_range(alloc, value, coord, parts.rule, hint);
+        }
+        _ => {}
     }
 }

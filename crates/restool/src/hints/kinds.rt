@@ -1,11 +1,10 @@
 //! JSON texts of one kind where another was expected.
 
 use crate::hints::devices::is_fit;
-use crate::hints::members::{Member, coord_named, members_of};
-use crate::hints::text::text_of;
+use crate::hints::members::{Member, coord_named};
+use crate::hints::text::Hint;
 use json_input::list_of;
 use serde_json::Value;
-use std::alloc::Global;
 
 /// What a JSON text is, as its members say.
 #[derive(Clone, Copy, PartialEq, Eq)]
@@ -17,23 +16,23 @@ pub(crate) enum Kind {
 }
 
 impl Kind {
-    fn name<'a>(self) -> &'a str {
+    fn name<'a>(self) -> &'a [u8] {
         match self {
-            Kind::Layers => "list of layers",
-            Kind::Device => "device",
-            Kind::Box => "box",
-            Kind::Certificate => "certificate",
+            Kind::Layers => b"list of layers",
+            Kind::Device => b"device",
+            Kind::Box => b"box",
+            Kind::Certificate => b"certificate",
         }
     }
 
     // How to make a text of another kind into this one, where that is no matter of the order of words.
-    fn form_for<'a>(self, other: Kind) -> &'a str {
+    fn form_for<'a>(self, other: Kind) -> &'a [u8] {
         match (self, other) {
             (Kind::Box, Kind::Device) =>
-                "; a box has a list or a range for each qualifier, as \"density\":[160,320]",
+                b"; a box has a list or a range for each qualifier, as \"density\":[160,320]",
             (Kind::Device, Kind::Box) =>
-                "; a device has one value for each qualifier, as \"density\":320",
-            _ => "",
+                b"; a device has one value for each qualifier, as \"density\":320",
+            _ => b"",
         }
     }
 }
@@ -45,38 +44,31 @@ pub(crate) struct JsonFile<'a> {
     pub path: &'a str,
 }
 
-/// What is said of a file that is of another kind.
-pub(crate) fn hint_of_kind(
-    alloc: Global,
-    order: &str,
-    file: JsonFile<'_>,
-    kind: Kind,
-) -> Option<String> {
-    let JsonFile { expected, path } = file;
-    text_of(
-        alloc,
-        &[
-            path,
-            " is a ",
-            kind.name(),
-            ", and no ",
-            expected.name(),
-            expected.form_for(kind),
-            order,
-        ],
-    )
+/// Says that a file is of another kind.
+pub(crate) fn say_kind(order: &[u8], file: JsonFile<'_>, kind: Kind, hint: &mut Hint) {
+    hint.say_text(file.path);
+    hint.say(b" is a ");
+    hint.say(kind.name());
+    hint.say(b", and no ");
+    hint.say(file.expected.name());
+    hint.say(file.expected.form_for(kind));
+    hint.say(order);
 }
 
-/// The kind of a JSON text.
-pub(crate) fn kind_of(alloc: Global, value: &Value) -> Option<Kind> {
+/// The kind of a JSON text, which has these members.
+pub(crate) fn kind_of(value: &Value, members: &[Member<'_>]) -> Option<Kind> {
     if let Some(items) = list_of(value) {
-        let _table = items.first()?.get("table")?;
-        return Some(Kind::Layers);
+        return kind_of_list(items);
     }
-    if value.get("goals").is_some() {
-        return Some(Kind::Certificate);
+    match value.get("goals") {
+        Some(_) => Some(Kind::Certificate),
+        None => kind_of_members(members),
     }
-    kind_of_members(&members_of(alloc, value)?)
+}
+
+fn kind_of_list(items: &[Value]) -> Option<Kind> {
+    let _table = items.first()?.get("table")?;
+    Some(Kind::Layers)
 }
 
 // A device has a number or a text for each qualifier, a box a list or a range.

@@ -2,7 +2,7 @@
 
 use crate::hints::Asked;
 use crate::hints::content::Expected;
-use crate::hints::text::text_of;
+use crate::hints::text::{Hint, text_of};
 use command_base::{
     ApkFault, Inputs, LayerParts, MapFault, STANDARD_INPUT, Side, TableFault, ToolFault,
 };
@@ -26,29 +26,31 @@ struct LayerAt {
 }
 
 impl<I: Inputs> Asked<'_, '_, I> {
-    /// What is said of a fault of a layer, or of a table that is read alone.
-    pub(crate) fn hint_of_layer(&self, fault: ToolFault) -> Option<String> {
-        let wrong = wrong_by(fault)?;
-        let path = self.path_of(layer_with(fault), wrong)?;
-        let path = path.as_str();
+    /// Says what is wrong where there is a fault of a layer, or of a table that is read alone.
+    pub(crate) fn say_layer(&self, fault: ToolFault, hint: &mut Hint) {
+        if let Some(wrong) = wrong_by(fault)
+            && let Some(path) = self.path_of(layer_with(fault), wrong)
+        {
+            self.say_file(wrong, path.as_str(), hint);
+        }
+    }
+
+    fn say_file(&self, wrong: Wrong, path: &str, hint: &mut Hint) {
         match wrong {
-            Wrong::No(expected) => self.hint_of_content(expected, path),
-            Wrong::Compressed => text_of(
-                self.alloc,
-                &[
-                    "unpack its table: unzip -p ",
-                    path,
-                    " resources.arsc >a.arsc",
-                ],
-            ),
+            Wrong::No(expected) => self.say_content(expected, path, hint),
+            Wrong::Compressed => {
+                hint.say(b"unpack its table: unzip -p ");
+                hint.say_text(path);
+                hint.say(b" resources.arsc >a.arsc");
+            }
         }
     }
 
     // The path of the file.
     fn path_of(&self, at: LayerAt, wrong: Wrong) -> Option<String> {
-        match self.files.layers(at.side) {
+        match self.parts.layers(at.side) {
             Some(word) => path_among(self.alloc, &self.listed_paths(word)?, at.place, wrong),
-            None => own_path(self.alloc, self.files.table(at.place)?),
+            None => own_path(self.alloc, self.parts.table(at.place)?),
         }
     }
 }

@@ -1,9 +1,9 @@
 //! Lists of layers, and the paths in them.
 
 use crate::hints::Asked;
-use crate::hints::members::{Member, hint_at_item, is_short, members_of};
+use crate::hints::members::{Member, is_short, members_of};
 use crate::hints::nearest::Nearest;
-use crate::hints::text::text_of;
+use crate::hints::text::{Hint, text_of};
 use command_base::{
     Inputs, LayerList, LayerParts, ListedLayer, Side, is_list_word, layers_in_word,
 };
@@ -30,20 +30,26 @@ impl<I: Inputs> Asked<'_, '_, I> {
         }
     }
 
-    /// From which list a path is that was not read, and where it begins.
-    pub(crate) fn hint_of_unread(&self, path: &str) -> Option<String> {
-        let list = self.list_with(path)?;
-        let there = self.beside(list, path);
+    /// Says from which list a path is that was not read, and where it begins.
+    pub(crate) fn say_unread(&self, path: &str, hint: &mut Hint) {
+        let Some(list) = self.list_with(path) else {
+            return;
+        };
+        hint.say_text(list);
+        hint.say(b" names it, where paths begin in ");
         match self.inputs.folder() {
-            Some(folder) => hint_of_place(self.alloc, list, folder.as_str(), there),
-            None => hint_of_place(self.alloc, list, "the folder where restool runs", there),
+            Some(folder) => hint.say_text(folder.as_str()),
+            None => hint.say(b"the folder where restool runs"),
+        }
+        if let Some((folder, _name)) = list.rsplit_once('/') {
+            self.say_beside(folder, path, hint);
         }
     }
 
     // The list of layers that has a path.
     fn list_with(&self, path: &str) -> Option<&str> {
         for side in SIDES {
-            let list = self.files.layers(*side)?;
+            let list = self.parts.layers(*side)?;
             if have_path(&self.listed_paths(list)?, path) {
                 return Some(list);
             }
@@ -51,31 +57,14 @@ impl<I: Inputs> Asked<'_, '_, I> {
         None
     }
 
-    // The same path in the folder of the list, where a file lies there.
-    fn beside(&self, list: &str, path: &str) -> Option<String> {
-        let (folder, _name) = list.rsplit_once('/')?;
-        let there = text_of(self.alloc, &[folder, "/", path])?;
-        match self.inputs.read_again(there.as_str()) {
-            Some(_) => Some(there),
-            None => None,
+    // That the same path is right in the folder of the list, where a file lies there.
+    fn say_beside(&self, folder: &str, path: &str, hint: &mut Hint) {
+        if let Some(there) = text_of(self.alloc, &[folder, "/", path])
+            && self.inputs.read_again(there.as_str()).is_some()
+        {
+            hint.say(b": write ");
+            hint.say_text(there.as_str());
         }
-    }
-}
-
-// Where the paths of a list begin, and what to write in place of one.
-fn hint_of_place(alloc: Global, list: &str, folder: &str, there: Option<String>) -> Option<String> {
-    match there {
-        Some(there) => text_of(
-            alloc,
-            &[
-                list,
-                " names it, where paths begin in ",
-                folder,
-                ": write ",
-                there.as_str(),
-            ],
-        ),
-        None => text_of(alloc, &[list, " names it, where paths begin in ", folder]),
     }
 }
 
@@ -111,26 +100,31 @@ fn have_path(layers: &[LayerParts<String>], path: &str) -> bool {
     false
 }
 
-/// What is wrong with the items of a list.
-pub(crate) fn hint_of_layers(alloc: Global, list: &Value) -> Option<String> {
-    for (place, item) in list_of(list)?.iter().enumerate() {
-        if let Some(hint) = hint_of_item(alloc, item) {
-            return hint_at_item(alloc, place, "", hint.as_str());
+/// Says of the first item of a list that is not as it has to be what is wrong.
+pub(crate) fn say_layers(alloc: Global, list: &Value, hint: &mut Hint) {
+    for (place, item) in list_of(list).unwrap_or(&[]).iter().enumerate() {
+        let mut wrong = Hint::new(alloc);
+        say_item(alloc, item, &mut wrong);
+        if !wrong.is_empty() {
+            hint.say(b"item ");
+            hint.say_number(place as u64);
+            return hint.append(&wrong);
         }
     }
-    None
 }
 
 // What is said behind the place of an item.
-fn hint_of_item(alloc: Global, item: &Value) -> Option<String> {
+fn say_item(alloc: Global, item: &Value, hint: &mut Hint) {
     if !item.is_object() {
-        return text_of(alloc, &[" is no object, as {\"table\":\"PATH\"}"]);
+        return hint.say(b" is no object, as {\"table\":\"PATH\"}");
     }
-    let members = members_of(alloc, item)?;
+    let Some(members) = members_of(alloc, item) else {
+        return;
+    };
     match wrong_among(&members) {
-        Some(member) => hint_of_member(alloc, member),
-        None if item.get("table").is_some() => None,
-        None => text_of(alloc, &[" has no \"table\""]),
+        Some(member) => say_member(alloc, member.name, hint),
+        None if item.get("table").is_some() => {}
+        None => hint.say(b" has no \"table\""),
     }
 }
 
@@ -144,26 +138,29 @@ fn wrong_among<'v>(members: &[Member<'v>]) -> Option<Member<'v>> {
     None
 }
 
-fn hint_of_member(alloc: Global, member: Member<'_>) -> Option<String> {
-    let Member { name, .. } = member;
+fn say_member(alloc: Global, name: &str, hint: &mut Hint) {
     if MEMBERS.contains(&name) {
-        let takes = "\" takes a text, the path of a file";
-        return text_of(alloc, &[": \"", name, takes]);
+        say_name(name, hint);
+        hint.say(b" takes a text, the path of a file");
+    } else if is_short(name) {
+        say_other_name(alloc, name, hint);
     }
-    if !is_short(name) {
-        return None;
-    }
-    hint_of_name(alloc, name)
+}
+
+fn say_name(name: &str, hint: &mut Hint) {
+    hint.say(b": ");
+    hint.say_quoted(name);
 }
 
 // A member of another name.
-fn hint_of_name(alloc: Global, name: &str) -> Option<String> {
+fn say_other_name(alloc: Global, name: &str, hint: &mut Hint) {
     let mut nearest = Nearest::new(name);
     for member in MEMBERS {
         nearest.offer(alloc, *member, *member);
     }
+    say_name(name, hint);
     match nearest.found {
-        Some(near) => text_of(alloc, &[": \"", name, "\": did you mean ", near, "?"]),
-        None => text_of(alloc, &[": \"", name, "\" is neither table nor map"]),
+        Some(_) => nearest.say(b": did you mean ", hint),
+        None => hint.say(b" is neither table nor map"),
     }
 }

@@ -1,77 +1,85 @@
 //! Texts that give no locale.
 
 use crate::hints::members::is_short;
-use crate::hints::text::text_of;
+use crate::hints::text::Hint;
 use command_base::LocaleRule;
+use json_input::list_of;
 use locales::read_locale;
+use serde_json::Value;
 use std::alloc::Global;
 
-/// What to write in place of such a text, or how it is read.
-pub(crate) fn hint_of_locale(alloc: Global, text: &str, rule: LocaleRule) -> Option<String> {
+/// Says what is wrong with the text of a device, or with the first of the list of a box.
+pub(crate) fn say_locales(alloc: Global, value: Option<&Value>, rule: LocaleRule, hint: &mut Hint) {
+    let Some(value) = value else {
+        return;
+    };
+    if let Some(text) = value.as_str() {
+        return say_locale(alloc, text, rule, hint);
+    }
+    for item in list_of(value).unwrap_or(&[]) {
+        if let Some(text) = item.as_str()
+            && is_short(text)
+            && read_locale(text, rule).is_err()
+        {
+            return say_locale(alloc, text, rule, hint);
+        }
+    }
+}
+
+// What to write in place of such a text, or how it is read.
+fn say_locale(alloc: Global, text: &str, rule: LocaleRule, hint: &mut Hint) {
     if !is_short(text) {
-        return None;
+        return;
     }
     if read_locale(text, LocaleRule::Android).is_ok() {
-        return text_of(alloc, &[text, " has a script: give --locales android"]);
+        hint.say_text(text);
+        return hint.say(b" has a script: give --locales android");
     }
-    let mut tag = String::new(alloc);
-    push_tag(text, &mut tag)?;
-    let tag = tag.as_str();
-    text_of(
-        alloc,
-        &["write ", tag, " for ", text, advice_for(tag, rule)?],
-    )
-}
-
-// What else to give that a tag is read.
-fn advice_for<'a>(tag: &str, rule: LocaleRule) -> Option<&'a str> {
-    if read_locale(tag, rule).is_ok() {
-        Some("")
-    } else if read_locale(tag, LocaleRule::Android).is_ok() {
-        Some(", and give --locales android")
-    } else {
-        None
+    let mut tag = Hint::new(alloc);
+    say_subtags(text, &mut tag);
+    if let Some(tag) = tag.text() {
+        say_tag(tag, text, rule, hint);
     }
 }
 
-/// How a subtag of a tag is written.
-#[derive(Clone, Copy)]
-enum Case {
-    Lower,
-    Title,
-    Upper,
+// The tag that a text is meant for, and what else to give that it is read.
+fn say_tag(tag: &str, text: &str, rule: LocaleRule, hint: &mut Hint) {
+    let is_read = read_locale(tag, rule).is_ok();
+    if !is_read && read_locale(tag, LocaleRule::Android).is_err() {
+        return;
+    }
+    hint.say(b"write ");
+    hint.say_text(tag);
+    hint.say(b" for ");
+    hint.say_text(text);
+    if !is_read {
+        hint.say(b", and give --locales android");
+    }
 }
 
 // The same subtags as texts of locales have them: es_MX and es-rMX are es-MX, b+sr+Latn is sr-Latn.
-fn push_tag(text: &str, tag: &mut String) -> Option<()> {
+fn say_subtags(text: &str, tag: &mut Hint) {
     for subtag in text.split(['-', '_', '+']) {
-        push_subtag(subtag, tag)?;
+        match subtag.as_bytes() {
+            b"" | b"b" => {}
+            subtag => say_subtag(subtag, tag),
+        }
     }
-    Some(())
 }
 
-fn push_subtag(subtag: &str, tag: &mut String) -> Option<()> {
-    if subtag.is_empty() || subtag == "b" {
-        return Some(());
-    }
+// A language, or behind it a script or a region.
+fn say_subtag(subtag: &[u8], tag: &mut Hint) {
     if tag.is_empty() {
-        return push_cased(subtag, Case::Lower, tag);
+        return say_cased(subtag, false, tag);
     }
-    if tag.push('-').is_err() {
-        return None;
-    }
-    let subtag = region_behind_r(subtag);
-    let case = match subtag.len() {
-        4 => Case::Title,
-        _ => Case::Upper,
-    };
-    push_cased(subtag, case, tag)
+    tag.say(b"-");
+    say_cased(region_behind_r(subtag), true, tag);
 }
 
 // A region, where it stands behind an `r`, as in folders of resources.
-fn region_behind_r(subtag: &str) -> &str {
-    match subtag.strip_prefix('r') {
-        Some(region) if is_region(region.as_bytes()) => region,
+fn region_behind_r(subtag: &[u8]) -> &[u8] {
+    match subtag.strip_prefix(b"r") {
+        Some(region) if is_region(region) => region,
         _ => subtag,
     }
 }
@@ -85,18 +93,16 @@ fn is_region(letters: &[u8]) -> bool {
     true
 }
 
-fn push_cased(subtag: &str, case: Case, tag: &mut String) -> Option<()> {
-    let mut is_upper = matches!(case, Case::Title | Case::Upper);
-    for c in subtag.chars() {
+// A script, of four letters, has a capital at its begin alone.
+fn say_cased(subtag: &[u8], is_upper: bool, tag: &mut Hint) {
+    let mut is_upper = is_upper;
+    for letter in subtag {
         let cased = if is_upper {
-            c.to_ascii_uppercase()
+            letter.to_ascii_uppercase()
         } else {
-            c.to_ascii_lowercase()
+            letter.to_ascii_lowercase()
         };
-        if tag.push(cased).is_err() {
-            return None;
-        }
-        is_upper = matches!(case, Case::Upper);
+        tag.say(&[cased]);
+        is_upper = is_upper && subtag.len() != 4;
     }
-    Some(())
 }

@@ -1,9 +1,8 @@
-//! What is wrong with a member of a JSON text.
+//! The members of a JSON text.
 
 use crate::hints::nearest::Nearest;
-use crate::hints::qualifiers::{meaning, name_of, number_of_word};
-use crate::hints::text::Piece::{Number, Text};
-use crate::hints::text::{text_of, text_with};
+use crate::hints::qualifiers::{number_of_word, say_takes};
+use crate::hints::text::Hint;
 use command_base::Coord;
 use serde_json::Value;
 use std::alloc::Global;
@@ -45,108 +44,54 @@ pub(crate) fn coord_named(name: &str) -> Option<Coord> {
     None
 }
 
-/// A member that is no qualifier.
-pub(crate) fn hint_of_name(alloc: Global, name: &str) -> Option<String> {
+/// Says of a member that it is no qualifier.
+pub(crate) fn say_no_qualifier(alloc: Global, name: &str, hint: &mut Hint) {
     if !is_short(name) {
-        return None;
+        return;
     }
     let mut nearest = Nearest::new(name);
     for coord in &Coord::ALL {
-        nearest.offer(alloc, coord.name(), name_of(*coord));
+        nearest.offer(alloc, coord.name(), coord.name());
     }
+    hint.say_quoted(name);
+    hint.say(b" is no qualifier");
     match nearest.found {
-        Some(near) => text_of(
-            alloc,
-            &["\"", name, "\" is no qualifier: did you mean ", near, "?"],
-        ),
-        None => text_of(
-            alloc,
-            &[
-                "\"",
-                name,
-                "\" is no qualifier; restool device 'config: land-night-xhdpi' prints some",
-            ],
-        ),
+        Some(_) => nearest.say(b": did you mean ", hint),
+        None => hint.say(b"; restool device 'config: land-night-xhdpi' prints some"),
     }
 }
 
-/// A value that is no number, at a qualifier that takes one.
-pub(crate) fn hint_of_value(alloc: Global, coord: Coord, value: &Value) -> Option<String> {
-    let Some(word) = value.as_str() else {
-        let takes = "\" takes a whole number: ";
-        return hint_at_name(alloc, coord.name(), takes, meaning(coord));
-    };
-    if !is_short(word) {
-        return None;
+/// Says of a value that it is no number, at a qualifier that takes one. Of a long text nothing is said.
+pub(crate) fn say_no_number(alloc: Global, coord: Coord, value: &Value, hint: &mut Hint) {
+    match value.as_str() {
+        Some(word) if is_short(word) => say_word(alloc, coord, word, hint),
+        Some(_) => hint.clear(),
+        None => say_takes(coord, b" takes a whole number: ", hint),
     }
-    hint_of_word(alloc, coord, word)
 }
 
-fn hint_of_word(alloc: Global, coord: Coord, word: &str) -> Option<String> {
-    // A word of resource folders.
-    if let Some(number) = number_of_word(alloc, coord, word) {
-        return text_with(
-            alloc,
-            &[
-                Text("\""),
-                Text(word),
-                Text("\" is "),
-                Number(u64::from(number)),
-                Text(" at \""),
-                Text(name_of(coord)),
-                Text("\""),
-            ],
-        );
-    }
-    match word.parse::<u32>() {
-        Ok(number) => hint_of_quotes(alloc, coord, u64::from(number)),
-        Err(_) => {
-            let takes = "\" takes a number: ";
-            hint_at_name(alloc, coord.name(), takes, meaning(coord))
+// A word of resource folders, or else another text.
+fn say_word(alloc: Global, coord: Coord, word: &str, hint: &mut Hint) {
+    match number_of_word(alloc, coord, word) {
+        0 => say_no_word(coord, word, hint),
+        number => {
+            hint.say_quoted(word);
+            hint.say(b" is ");
+            hint.say_number(u64::from(number));
+            hint.say(b" at ");
+            hint.say_quoted(coord.name());
         }
     }
 }
 
-fn hint_of_quotes(alloc: Global, coord: Coord, number: u64) -> Option<String> {
-    text_with(
-        alloc,
-        &[
-            Text("write "),
-            Number(number),
-            Text(" without quotes at \""),
-            Text(name_of(coord)),
-            Text("\""),
-        ],
-    )
-}
-
-/// A number that no device has.
-pub(crate) fn hint_of_number(alloc: Global, coord: Coord, number: u64) -> Option<String> {
-    text_with(
-        alloc,
-        &[
-            Text("\""),
-            Text(name_of(coord)),
-            Text("\" is never "),
-            Number(number),
-            Text(": "),
-            Text(meaning(coord)),
-        ],
-    )
-}
-
-/// What is said behind a name, and what the numbers there mean.
-pub(crate) fn hint_at_name(alloc: Global, name: &str, said: &str, means: &str) -> Option<String> {
-    text_of(alloc, &["\"", name, said, means])
-}
-
-/// What is said of an item of a list, behind its place.
-pub(crate) fn hint_at_item<'t>(
-    alloc: Global,
-    place: usize,
-    mark: &'t str,
-    hint: &'t str,
-) -> Option<String> {
-    let place = Number(place as u64);
-    text_with(alloc, &[Text("item "), place, Text(mark), Text(hint)])
+fn say_no_word(coord: Coord, text: &str, hint: &mut Hint) {
+    match text.parse::<u32>() {
+        Ok(number) => {
+            hint.say(b"write ");
+            hint.say_number(u64::from(number));
+            hint.say(b" without quotes at ");
+            hint.say_quoted(coord.name());
+        }
+        Err(_) => say_takes(coord, b" takes a number: ", hint),
+    }
 }

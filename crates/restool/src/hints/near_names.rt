@@ -4,11 +4,11 @@ use crate::hints::Asked;
 use crate::hints::again::Again;
 use crate::hints::members::is_short;
 use crate::hints::nearest::Nearest;
-use crate::hints::text::text_of;
-use command_base::{Inputs, Side, Status};
+use crate::hints::text::Hint;
+use command_base::{Inputs, Side};
+use resource_tool::Ids;
 use std::alloc::Global;
 use std::str;
-use resource_tool::Ids;
 
 /// Stands for all entries of a type.
 const ALL: &str = "*";
@@ -117,37 +117,40 @@ impl<'w, 'n> NearNames<'w, 'n> {
 }
 
 impl<I: Inputs> Asked<'_, '_, I> {
-    /// The name of the base layers that is nearest to a word.
-    pub(crate) fn hint_of_missing(&self, word: &str) -> Option<String> {
-        let wanted = Parts::of(word.strip_prefix('@').unwrap_or(word))?;
-        if !is_short(wanted.name) {
-            return None;
-        }
+    /// Says which name of the base layers is nearest to a word.
+    pub(crate) fn say_missing(&self, word: &str, hint: &mut Hint) {
+        let Some(wanted) = Parts::of(word.strip_prefix('@').unwrap_or(word)) else {
+            return;
+        };
         let mut printed = Vec::new(self.alloc);
-        let _status = self.print_all_ids(&mut printed)?;
-        hint_of_near(self.alloc, wanted, &printed)
+        if is_short(wanted.name) && self.print_all_ids(&mut printed) {
+            say_near(self.alloc, wanted, &printed, hint);
+        }
     }
 
     // Prints the ids of all base layers.
-    fn print_all_ids(&self, printed: &mut Vec<u8>) -> Option<Status> {
-        let again = self.again();
-        let old = self.files.layers(Side::Old)?;
-        let status = print_ids(self.alloc, &again, old, printed)?;
-        let new = self.files.layers(Side::New)?;
-        if new == old {
-            return Some(status);
+    fn print_all_ids(&self, printed: &mut Vec<u8>) -> bool {
+        match (self.parts.layers(Side::Old), self.parts.layers(Side::New)) {
+            (Some(old), Some(new)) => {
+                self.print_ids(old, printed) && (new == old || self.print_ids(new, printed))
+            }
+            _ => false,
         }
-        print_ids(self.alloc, &again, new, printed)
+    }
+
+    fn print_ids(&self, layers: &str, printed: &mut Vec<u8>) -> bool {
+        print_ids(self.alloc, self.inputs, layers, printed)
     }
 }
 
-fn hint_of_near(alloc: Global, wanted: Parts<'_>, printed: &[u8]) -> Option<String> {
+fn say_near(alloc: Global, wanted: Parts<'_>, printed: &[u8], hint: &mut Hint) {
     let mut near = NearNames::to(wanted);
-    let Ok(text) = str::from_utf8(printed) else {
-        return None;
-    };
-    offer_lines(alloc, text, &mut near);
-    hint_of_found(alloc, wanted, near.found()?)
+    if let Ok(text) = str::from_utf8(printed) {
+        offer_lines(alloc, text, &mut near);
+    }
+    if let Some(found) = near.found() {
+        say_found(wanted, found, hint);
+    }
 }
 
 fn offer_lines<'n>(alloc: Global, text: &'n str, near: &mut NearNames<'_, 'n>) {
@@ -157,71 +160,68 @@ fn offer_lines<'n>(alloc: Global, text: &'n str, near: &mut NearNames<'_, 'n>) {
 }
 
 // A name that was found; for all entries of a type, behind its package where one is wanted.
-fn hint_of_found(alloc: Global, wanted: Parts<'_>, found: &str) -> Option<String> {
-    if !wanted.is_of_all() {
-        return text_of(alloc, &["did you mean ", found, "?"]);
+fn say_found(wanted: Parts<'_>, found: &str, hint: &mut Hint) {
+    hint.say(b"did you mean ");
+    match Parts::of(found) {
+        Some(parts) if wanted.is_of_all() => say_type(wanted, parts, hint),
+        _ => hint.say_text(found),
     }
-    let Parts {
-        package,
-        type_name,
-        ..
-    } = Parts::of(found)?;
-    let (package, colon) = match package {
-        Some(package) if wanted.package.is_some() => (package, ":"),
-        _ => ("", ""),
-    };
-    text_of(alloc, &["did you mean ", package, colon, type_name, "/*?"])
+    hint.say(b"?");
 }
 
-/// The name of a resource that has the entry that a word is, where that has no type.
-pub(crate) fn hint_of_bare<I: Inputs>(
+fn say_type(wanted: Parts<'_>, found: Parts<'_>, hint: &mut Hint) {
+    if let Some(package) = found.package
+        && wanted.package.is_some()
+    {
+        hint.say_text(package);
+        hint.say(b":");
+    }
+    hint.say_text(found.type_name);
+    hint.say(b"/*");
+}
+
+/// Says which resource has the entry that a word is, where that has no type.
+pub(crate) fn say_bare<I: Inputs>(
     alloc: Global,
     inputs: &I,
     words: &[String],
     word: &str,
-) -> Option<String> {
+    hint: &mut Hint,
+) {
     if word.contains('/') || !is_short(word) {
-        return None;
+        return;
     }
-    let again = Again { inputs };
     for layers in words {
         let mut printed = Vec::new(alloc);
-        if print_ids(alloc, &again, layers.as_str(), &mut printed).is_some() {
-            return hint_of_entry(alloc, &printed, word);
+        if print_ids(alloc, inputs, layers.as_str(), &mut printed) {
+            return say_entry(alloc, &printed, word, hint);
         }
     }
-    None
 }
 
-fn hint_of_entry(alloc: Global, printed: &[u8], word: &str) -> Option<String> {
+fn say_entry(alloc: Global, printed: &[u8], word: &str, hint: &mut Hint) {
     let mut nearest = Nearest::new(word);
-    let Ok(text) = str::from_utf8(printed) else {
-        return None;
-    };
-    offer_entries(alloc, text, &mut nearest);
-    let behind = "a name has its type before it: did you mean ";
-    text_of(alloc, &[behind, nearest.found?, "?"])
+    if let Ok(text) = str::from_utf8(printed) {
+        offer_entries(alloc, text, &mut nearest);
+    }
+    nearest.say(b"a name has its type before it: did you mean ", hint);
 }
 
 fn offer_entries<'n>(alloc: Global, text: &'n str, nearest: &mut Nearest<'_, 'n>) {
     for line in text.lines() {
-        let Some((_id, name)) = named_in(line) else {
-            continue;
-        };
-        if let Some((_type_name, entry_name)) = name.split_once('/') {
+        if let Some((_id, name)) = named_in(line)
+            && let Some((_type_name, entry_name)) = name.split_once('/')
+        {
             nearest.offer(alloc, entry_name, name);
         }
     }
 }
 
-// Prints what `restool ids` prints of layers.
-fn print_ids<I: Inputs>(
-    alloc: Global,
-    inputs: &Again<'_, I>,
-    layers: &str,
-    printed: &mut Vec<u8>,
-) -> Option<Status> {
-    Ids { layers }.answer(alloc, inputs, printed).ok()
+// Prints what `restool ids` prints of layers, where it answers.
+fn print_ids<I: Inputs>(alloc: Global, inputs: &I, layers: &str, printed: &mut Vec<u8>) -> bool {
+    Ids { layers }
+        .answer(alloc, &Again { inputs }, printed)
+        .is_ok()
 }
 
 // The id and the name in a line of `restool ids`, where that is a word that asks for it.

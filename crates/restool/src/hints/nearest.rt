@@ -1,5 +1,6 @@
 //! The nearest of some texts.
 
+use crate::hints::text::Hint;
 use std::alloc::Global;
 use strsim::levenshtein;
 
@@ -49,5 +50,14 @@ impl<'w, 'n> Nearest<'w, 'n> {
     /// Whether what was found is as near as what another has found.
     pub(crate) fn is_as_near_as(&self, other: &Nearest<'_, '_>) -> bool {
         self.found.is_some() && self.too_many <= other.too_many
+    }
+
+    /// Says what was found, behind a text.
+    pub(crate) fn say(&self, before: &[u8], hint: &mut Hint) {
+        if let Some(near) = self.found {
+            hint.say(before);
+            hint.say_text(near);
+            hint.say(b"?");
+        }
     }
 }

@@ -1,8 +1,7 @@
 //! Overlays of which nothing maps.
 
 use crate::hints::Asked;
-use crate::hints::text::Piece::{Number, Text};
-use crate::hints::text::text_with;
+use crate::hints::text::Hint;
 use command_base::{
     Inputs, LayerFiles, LayerParts, ListedLayer, Side, has_overlays, layers_in_word,
 };
@@ -12,38 +11,34 @@ use std::alloc::Global;
 const NOTHING: &[u8] = b"[]\n";
 
 impl<I: Inputs> Asked<'_, '_, I> {
-    /// The first overlay of a word of which nothing maps, where something was said of made maps.
-    pub(crate) fn hint_of_overlays(&self, left: &[u8]) -> Option<String> {
+    /// Says which is the first overlay of a word of which nothing maps, where something was said of made maps.
+    pub(crate) fn say_overlays(&self, left: &[u8], hint: &mut Hint) {
         if left.is_empty() {
-            return None;
+            return;
         }
-        match self.hint_of_side(Side::Old) {
-            Some(hint) => Some(hint),
-            None => self.hint_of_side(Side::New),
+        self.say_of_side(Side::Old, hint);
+        if hint.is_empty() {
+            self.say_of_side(Side::New, hint);
         }
     }
 
-    fn hint_of_side(&self, side: Side) -> Option<String> {
-        let word = self.files.layers(side)?;
-        if !has_overlays(word) {
-            return None;
+    fn say_of_side(&self, side: Side, hint: &mut Hint) {
+        if let Some(word) = self.parts.layers(side)
+            && has_overlays(word)
+            && let Ok(files) = LayerFiles::read(self.alloc, &self.again(), word)
+        {
+            say_of_files(self.alloc, word, &files, hint);
         }
-        let Ok(files) = LayerFiles::read(self.alloc, &self.again(), word) else {
-            return None;
-        };
-        hint_of_files(self.alloc, word, &files)
     }
 }
 
-fn hint_of_files(alloc: Global, word: &str, files: &LayerFiles) -> Option<String> {
-    let Ok(layers) = files.layers(alloc) else {
-        return None;
-    };
-    let place = place_of_nothing(&layers)?;
-    let Ok(listed) = layers_in_word(alloc, word) else {
-        return None;
-    };
-    hint_of_nothing(alloc, &listed, place)
+fn say_of_files(alloc: Global, word: &str, files: &LayerFiles, hint: &mut Hint) {
+    if let Ok(layers) = files.layers(alloc)
+        && let Some(place) = place_of_nothing(&layers)
+        && let Ok(listed) = layers_in_word(alloc, word)
+    {
+        say_nothing_maps(&listed, place, hint);
+    }
 }
 
 // The first layer of which nothing maps.
@@ -56,19 +51,19 @@ fn place_of_nothing(layers: &[LayerParts<&[u8]>]) -> Option<usize> {
     None
 }
 
-fn hint_of_nothing(alloc: Global, listed: &[ListedLayer<'_>], place: usize) -> Option<String> {
-    let overlay = listed.get(place)?;
-    let target = listed.get(overlay.base?)?;
-    text_with(
-        alloc,
-        &[
-            Text("nothing of layer "),
-            Number(place as u64),
-            Text(", "),
-            Text(overlay.path),
-            Text(", maps to "),
-            Text(target.path),
-            Text(": does it stand behind the right base?"),
-        ],
-    )
+fn say_nothing_maps(listed: &[ListedLayer<'_>], place: usize, hint: &mut Hint) {
+    let Some(overlay) = listed.get(place) else {
+        return;
+    };
+    if let Some(base) = overlay.base
+        && let Some(target) = listed.get(base)
+    {
+        hint.say(b"nothing of layer ");
+        hint.say_number(place as u64);
+        hint.say(b", ");
+        hint.say_text(overlay.path);
+        hint.say(b", maps to ");
+        hint.say_text(target.path);
+        hint.say(b": does it stand behind the right base?");
+    }
 }

@@ -1,7 +1,7 @@
 //! Certificates that are rejected.
 
 use crate::hints::Asked;
-use crate::hints::text::{first_line, text_of};
+use crate::hints::text::{Hint, first_line};
 use command_base::{Inputs, LocaleRule, Status};
 use resource_tool::Check;
 use std::io::sink;
@@ -13,33 +13,36 @@ const OTHER_GOALS: &[u8] = b" N1 GoalList";
 const OTHER_GOALS_IN_WORDS: &[u8] = b" N1 GoalList: the certificate is for other goals";
 
 impl<I: Inputs> Asked<'_, '_, I> {
-    /// Where its goals are others; or by which other rule of locales it is true.
-    pub(crate) fn hint_of_verdict(&self, check: &Check<'_>, said: &[u8]) -> Option<String> {
-        let line = first_line(said)?.as_bytes();
+    /// Says where its goals are others; or by which other rule of locales it is true.
+    pub(crate) fn say_verdict(&self, check: &Check<'_>, said: &[u8], hint: &mut Hint) {
+        let Some(line) = first_line(said) else {
+            return;
+        };
+        let line = line.as_bytes();
         if !line.ends_with(OTHER_GOALS) && !line.ends_with(OTHER_GOALS_IN_WORDS) {
-            return self.hint_of_other_rule(check);
+            return self.say_other_rule(check, hint);
         }
-        match self.hint_of_goals(check) {
-            Some(hint) => Some(hint),
-            None => text_of(
-                self.alloc,
-                &[check.certificate, " is of other goals than these"],
-            ),
+        self.say_goals(check, hint);
+        if hint.is_empty() {
+            hint.say_text(check.certificate);
+            hint.say(b" is of other goals than these");
         }
     }
 
-    fn hint_of_other_rule(&self, check: &Check<'_>) -> Option<String> {
-        let (rule, with) = match check.locales {
-            LocaleRule::LanguageAndRegion => (LocaleRule::Android, "with"),
-            LocaleRule::Android => (LocaleRule::LanguageAndRegion, "without"),
+    fn say_other_rule(&self, check: &Check<'_>, hint: &mut Hint) {
+        let (rule, said) = match check.locales {
+            LocaleRule::LanguageAndRegion => (
+                LocaleRule::Android,
+                "it is true with --locales android: was it made so?",
+            ),
+            LocaleRule::Android => (
+                LocaleRule::LanguageAndRegion,
+                "it is true without --locales android: was it made so?",
+            ),
         };
-        if !self.is_true_by(check, rule) {
-            return None;
+        if self.is_true_by(check, rule) {
+            hint.say_text(said);
         }
-        text_of(
-            self.alloc,
-            &["it is true ", with, " --locales android: was it made so?"],
-        )
     }
 
     // Whether a certificate is true by a rule of locales.

@@ -2,8 +2,7 @@
 
 use crate::hints::Asked;
 use crate::hints::members::is_short;
-use crate::hints::text::Piece::{Number, Text};
-use crate::hints::text::{text_of, text_with};
+use crate::hints::text::{Hint, text_of};
 use command_base::{Inputs, LocaleRule, Named};
 use config_words::{ConfigWordFault, read_config_by};
 use names::file_path;
@@ -13,31 +12,29 @@ use std::str;
 /// How many hexadecimal digits an id has.
 const ID_DIGITS: usize = 8;
 
-const BYTE_ORDER_MARK: char = '\u{feff}';
+const BYTE_ORDER_MARK: &[u8] = b"\xef\xbb\xbf";
 
-/// What to write in place of a word that asks for no resource.
-pub(crate) fn hint_of_bad_id(alloc: Global, word: &str) -> Option<String> {
-    if !is_short(word) {
-        return None;
-    }
-    let meant = meant_by(alloc, word)?;
-    match Named::read(meant.as_str()) {
-        Some(_) => text_of(alloc, &["write ", meant.as_str()]),
-        None => None,
+/// Says what to write in place of a word that asks for no resource.
+pub(crate) fn say_bad_id(alloc: Global, word: &str, hint: &mut Hint) {
+    if is_short(word)
+        && let Some(meant) = meant_by(alloc, word)
+        && Named::read(meant.as_str()).is_some()
+    {
+        hint.say(b"write ");
+        hint.say_text(meant.as_str());
     }
 }
 
 // A line of `restool ids` in place of a word.
-fn hint_of_columns(alloc: Global, word: &str) -> Option<String> {
-    let (id, _name) = word.split_once(' ')?;
-    if id.contains('/') || !is_short(word) {
-        return None;
+fn say_columns(word: &str, hint: &mut Hint) {
+    if let Some((id, _name)) = word.split_once(' ')
+        && !id.contains('/')
+        && is_short(word)
+        && Named::read(id).is_some()
+    {
+        hint.say(b"a word has an id or a name, and not both: write ");
+        hint.say_text(id);
     }
-    let _id = Named::read(id)?;
-    text_of(
-        alloc,
-        &["a word has an id or a name, and not both: write ", id],
-    )
 }
 
 // The word that it is near to: that of a field of the class R, of eight digits, or of a reference in XML.
@@ -72,55 +69,56 @@ fn name_in_reference(word: &str) -> Option<&str> {
 }
 
 impl<I: Inputs> Asked<'_, '_, I> {
-    /// Where a word stands that asks for nothing that is there, if that is in a file, and a hint for it.
-    pub(crate) fn hint_of_word(&self, word: &str, hint: Option<String>) -> Option<String> {
-        match (self.place_of_word(word), hint) {
-            (Some(at), Some(hint)) => text_of(self.alloc, &[at.as_str(), ": ", hint.as_str()]),
-            (Some(at), None) => Some(at),
-            (None, hint) => hint,
+    /// Says what is wrong with a word of a file that asks for nothing.
+    pub(crate) fn say_word_of_file(&self, word: &str, hint: &mut Hint) {
+        let mut meant = Hint::new(self.alloc);
+        say_bad_id(self.alloc, word, &mut meant);
+        self.say_word(word, &meant, hint);
+    }
+
+    /// Says what is wrong with a word that stands for no resource.
+    pub(crate) fn say_no_resource(&self, word: &str, hint: &mut Hint) {
+        let mut meant = Hint::new(self.alloc);
+        say_columns(word, &mut meant);
+        if meant.is_empty() {
+            self.say_missing(word, &mut meant);
         }
+        self.say_word(word, &meant, hint);
     }
 
-    /// What is said of a word that stands for no resource.
-    pub(crate) fn hint_of_no_resource(&self, word: &str) -> Option<String> {
-        let hint = match hint_of_columns(self.alloc, word) {
-            Some(hint) => Some(hint),
-            None => self.hint_of_missing(word),
-        };
-        self.hint_of_word(word, hint)
-    }
-
-    // The file and the line of a word.
-    fn place_of_word(&self, word: &str) -> Option<String> {
-        for asked in self.files.words {
-            let place = self.place_in(*asked, word);
-            if place.is_some() {
-                return place;
+    // Where a word stands that asks for nothing that is there, if that is in a file, and what is meant.
+    fn say_word(&self, word: &str, meant: &Hint, hint: &mut Hint) {
+        for asked in self.parts.words {
+            if hint.is_empty() {
+                self.say_place(*asked, word, hint);
             }
         }
-        None
+        if !hint.is_empty() && !meant.is_empty() {
+            hint.say(b": ");
+        }
+        hint.append(meant);
     }
 
-    // The same, if it stands in the file that this word names.
-    fn place_in(&self, asked: &str, word: &str) -> Option<String> {
-        let path = file_path(asked)?;
-        let bytes = self.inputs.read_again(path)?;
-        line_with(self.alloc, path, &bytes, word)
+    // The file and the line of a word, if it stands in the file that this word names.
+    fn say_place(&self, asked: &str, word: &str, hint: &mut Hint) {
+        if let Some(path) = file_path(asked)
+            && let Some(bytes) = self.inputs.read_again(path)
+            && let Some(number) = number_of_line(&bytes, word)
+        {
+            hint.say_text(path);
+            hint.say(b", line ");
+            hint.say_number(number);
+        }
     }
 
-    /// What a path may have been meant for, where no file lies.
-    pub(crate) fn hint_of_no_file(&self, path: &str) -> Option<String> {
+    /// Says what a path may have been meant for, where no file lies.
+    pub(crate) fn say_no_file(&self, path: &str, hint: &mut Hint) {
         if path.is_empty() {
-            let empty = "a word is empty: did the command fail that was to print it?";
-            return text_of(self.alloc, &[empty]);
-        }
-        if self.files.device == Some(path) {
-            return hint_of_unmarked(self.alloc, path);
-        }
-        if name_file(self.files.words, path) {
-            hint_of_marked(self.alloc, path)
-        } else {
-            None
+            hint.say(b"a word is empty: did the command fail that was to print it?");
+        } else if self.parts.device == Some(path) {
+            say_unmarked(path, hint);
+        } else if name_file(self.parts.words, path) {
+            say_marked(path, hint);
         }
     }
 }
@@ -135,17 +133,11 @@ fn name_file(words: &[&str], path: &str) -> bool {
     false
 }
 
-// A file and the number of its line that is a word.
-fn line_with(alloc: Global, path: &str, bytes: &[u8], word: &str) -> Option<String> {
-    let Ok(text) = str::from_utf8(bytes) else {
+// The number of the line that is a word.
+fn number_of_line(bytes: &[u8], word: &str) -> Option<u64> {
+    let Ok(text) = str::from_utf8(bytes.strip_prefix(BYTE_ORDER_MARK).unwrap_or(bytes)) else {
         return None;
     };
-    let number = number_of_line(text, word)?;
-    text_with(alloc, &[Text(path), Text(", line "), Number(number)])
-}
-
-fn number_of_line(text: &str, word: &str) -> Option<u64> {
-    let text = text.strip_prefix(BYTE_ORDER_MARK).unwrap_or(text);
     let mut number = 0_u64;
     for line in text.lines() {
         number = number.saturating_add(1);
@@ -157,27 +149,25 @@ fn number_of_line(text: &str, word: &str) -> Option<u64> {
 }
 
 // A name with the sign of a file before it.
-fn hint_of_marked(alloc: Global, path: &str) -> Option<String> {
+fn say_marked(path: &str, hint: &mut Hint) {
     let name = path.strip_prefix('+').unwrap_or(path);
-    let _named = Named::read(name)?;
-    let files = "a word with @ before it names a file of words; for the resource write ";
-    text_of(alloc, &[files, name])
+    if Named::read(name).is_some() {
+        hint.say(b"a word with @ before it names a file of words; for the resource write ");
+        hint.say_text(name);
+    }
 }
 
 // A device as Android writes it, without what stands before it.
-fn hint_of_unmarked(alloc: Global, word: &str) -> Option<String> {
+fn say_unmarked(word: &str, hint: &mut Hint) {
     if !word.contains('-') {
-        return None;
+        return;
     }
     match read_config_by(word, LocaleRule::Android) {
-        Err(ConfigWordFault::Qualifier(_)) => None,
-        Ok(_) | Err(ConfigWordFault::Device(_)) => text_of(
-            alloc,
-            &[
-                "write 'config: ",
-                word,
-                "' for a device as Android writes it",
-            ],
-        ),
+        Err(ConfigWordFault::Qualifier(_)) => {}
+        Ok(_) | Err(ConfigWordFault::Device(_)) => {
+            hint.say(b"write 'config: ");
+            hint.say_text(word);
+            hint.say(b"' for a device as Android writes it");
+        }
     }
 }

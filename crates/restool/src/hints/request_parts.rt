@@ -1,12 +1,12 @@
-//! What the words of a request name.
+//! What a request has.
 
 use crate::left::LayerWords;
 use crate::request::{Request, layer_words};
 use command_base::{LocaleRule, Side};
 
-/// The words of a request, by what they name.
+/// The words of a request, by what they name, and its rule of locales.
 #[derive(Clone, Copy)]
-pub(crate) struct NamedFiles<'t, 'a> {
+pub(crate) struct RequestParts<'t, 'a> {
     layers: LayerWords<'a>,
     /// Tables that have words of their own.
     tables: LayerWords<'a>,
@@ -18,13 +18,13 @@ pub(crate) struct NamedFiles<'t, 'a> {
     pub words: &'t [&'a str],
     /// By which rule locales are read.
     pub rule: LocaleRule,
-    /// In which order a command takes its files, where it takes several.
-    pub order: &'a str,
+    /// The end of a hint: in which order the command takes its files, where it takes several.
+    pub order: &'a [u8],
 }
 
-impl<'t, 'a> NamedFiles<'t, 'a> {
-    pub(crate) fn of(request: &'t Request<'a>) -> NamedFiles<'t, 'a> {
-        NamedFiles {
+impl<'t, 'a> RequestParts<'t, 'a> {
+    pub(crate) fn of(request: &'t Request<'a>) -> RequestParts<'t, 'a> {
+        RequestParts {
             layers: layer_words(request),
             tables: request.tables(),
             device: request.device(),
@@ -127,20 +127,20 @@ impl<'a> Request<'a> {
         }
     }
 
-    fn order(&self) -> &'a str {
+    fn order(&self) -> &'a [u8] {
         match self {
-            Request::Query(_) => "; query takes LAYERS DEVICE ID..",
-            Request::Explain(_) => "; explain takes LAYERS DEVICE ID",
-            Request::Bag(_) => "; bag takes LAYERS DEVICE ID",
-            Request::Attr(_) => "; attr takes LAYERS DEVICE ATTR STYLE..",
-            Request::Make(_) => "; make takes LAYERS BOX GOAL..",
-            Request::Check(_) => "; check takes LAYERS BOX CERT GOAL..",
-            Request::Show(_) => "; show takes LAYERS CERT",
-            Request::Diff(_) => "; diff takes OLD NEW BOX NAME..",
-            Request::Values(_) => "; values takes LAYERS BOX NAME..",
-            Request::Unused(_) => "; unused takes LAYERS BOX NAME..",
-            Request::Survey(_) => "; survey takes LAYERS BOX",
-            _ => "",
+            Request::Query(_) => b"; query takes LAYERS DEVICE ID..",
+            Request::Explain(_) => b"; explain takes LAYERS DEVICE ID",
+            Request::Bag(_) => b"; bag takes LAYERS DEVICE ID",
+            Request::Attr(_) => b"; attr takes LAYERS DEVICE ATTR STYLE..",
+            Request::Make(_) => b"; make takes LAYERS BOX GOAL..",
+            Request::Check(_) => b"; check takes LAYERS BOX CERT GOAL..",
+            Request::Show(_) => b"; show takes LAYERS CERT",
+            Request::Diff(_) => b"; diff takes OLD NEW BOX NAME..",
+            Request::Values(_) => b"; values takes LAYERS BOX NAME..",
+            Request::Unused(_) => b"; unused takes LAYERS BOX NAME..",
+            Request::Survey(_) => b"; survey takes LAYERS BOX",
+            _ => b"",
         }
     }
 }

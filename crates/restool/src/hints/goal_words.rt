@@ -1,0 +1,106 @@
+//! The goals of a check in words.
+
+use answer_text::StackNames;
+use command_base::{Cert, CertGoal, Goal, Inputs};
+use resource_tool::{Check, CheckFiles, OpenCheck, OpenedCert, write_named_words};
+use std::alloc::Global;
+
+/// The words of the goals that are asked for, and of those of the certificate, with the names of their ids.
+#[derive(Drop)]
+pub(crate) struct GoalWords {
+    pub asked: Vec<String>,
+    pub certified: Vec<String>,
+}
+
+/// Reads what the words of a check name, for the goals in it. Where more goals are asked for than the certificate has, the one
+/// behind as many is the last.
+pub(crate) fn goal_words<I: Inputs>(
+    alloc: Global,
+    inputs: &I,
+    check: &Check<'_>,
+) -> Option<GoalWords> {
+    let files = CheckFiles::read(
+        alloc,
+        inputs,
+        check.layers,
+        check.box_path,
+        check.certificate,
+        &check.goals,
+    );
+    match files {
+        Ok(files) => words_of_files(alloc, &files, check),
+        Err(_) => None,
+    }
+}
+
+fn words_of_files(alloc: Global, files: &CheckFiles, check: &Check<'_>) -> Option<GoalWords> {
+    match OpenCheck::open(alloc, files, check.locales) {
+        Ok(open) => words_of_goals(alloc, &open.opened, &open.goals),
+        Err(_) => None,
+    }
+}
+
+fn words_of_goals(alloc: Global, opened: &OpenedCert<'_>, goals: &[Goal]) -> Option<GoalWords> {
+    let Ok(names) = StackNames::of(alloc, &opened.stack) else {
+        return None;
+    };
+    let mut words = GoalWords {
+        asked: Vec::new(alloc),
+        certified: Vec::new(alloc),
+    };
+    match push_both(alloc, &names, goals, &opened.certificate, &mut words) {
+        Some(()) => Some(words),
+        None => None,
+    }
+}
+
+fn push_both(
+    alloc: Global,
+    names: &StackNames<'_, '_>,
+    goals: &[Goal],
+    certificate: &Cert,
+    words: &mut GoalWords,
+) -> Option<()> {
+    push_asked(alloc, names, goals, &mut words.asked)?;
+    push_certified(alloc, names, &certificate.goals, &mut words.certified)
+}
+
+fn push_asked(
+    alloc: Global,
+    names: &StackNames<'_, '_>,
+    goals: &[Goal],
+    words: &mut Vec<String>,
+) -> Option<()> {
+    for goal in goals {
+        push_words(alloc, names, goal, words)?;
+    }
+    Some(())
+}
+
+fn push_certified(
+    alloc: Global,
+    names: &StackNames<'_, '_>,
+    goals: &[CertGoal],
+    words: &mut Vec<String>,
+) -> Option<()> {
+    for certified in goals {
+        push_words(alloc, names, &certified.goal, words)?;
+    }
+    Some(())
+}
+
+fn push_words(
+    alloc: Global,
+    names: &StackNames<'_, '_>,
+    goal: &Goal,
+    words: &mut Vec<String>,
+) -> Option<()> {
+    let mut text = Vec::new(alloc);
+    if write_named_words(names, goal, &mut text).is_err() {
+        return None;
+    }
+    match String::from_utf8(text) {
+        Ok(text) => words.push(text).ok(),
+        Err(_) => None,
+    }
+}
