@@ -1,15 +1,12 @@
-//! The answers of commands in other notations: in Android's, the rows of a table, where ids end at a device, and how they come
-//! there; as JSON values, what resources say, and on which devices.
+//! The answers of commands in Android's notation: the rows of a table, where ids end at a device, and how they come there.
 //!
 //! For the crates above: each text is the one that `specs/` defines. It is made in memory, so that where that runs out nothing
-//! of it is written. No JSON value has a float, so `to_vec` prints it byte for byte as `compact_text` says.
+//! of it is written.
 //!
 //! ```text
 //! rows_text(alloc, table)?; // row 0x7f030000 xhdpi-v4 13dp
 //! let naming = Naming::of(alloc, &stack, &paths)?;
 //! ends_text(&naming, &device, &ids)?; // dimen/handle 13dp from teapot.apk xhdpi-v4
-//! content_json(alloc, &packages, &content)?; // {"value":{"kind":5,"word":4097,"xml":"16dp"}}
-//! devices_json(alloc, &phones, &some)?; // {"density":{"from":120,"to":197}}
 //! ```
 #![tactic(auto)]
 
@@ -22,9 +19,6 @@ mod dump;
 mod ends;
 mod explanation;
 mod goal;
-mod json_content;
-mod json_devices;
-mod json_text;
 mod last;
 mod lone_table;
 mod look_ups;
@@ -39,9 +33,6 @@ pub use dump::dump_text;
 pub use ends::ends_text;
 pub use explanation::explain_text;
 pub use goal::{write_claimed_end, write_goal};
-pub use json_content::{content_json, key_json, label_json, row_value_json, value_json};
-pub use json_devices::devices_json;
-pub use json_text::text_json;
 pub use naming::Naming;
 pub use rows::rows_text;
 pub use table_row::write_row_end;

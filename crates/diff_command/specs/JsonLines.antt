@@ -9,7 +9,7 @@ use Rattle.stack_diff.specs.names.Packages.{PackageNameOf}
 use Rattle.stack_diff.specs.names.Pairs.{PairOf}
 use Rattle.stack_diff.specs.names.Shared.{shared_ids}
 use Rattle.stack_diff.specs.Stacks.{StacksOf}
-use Rattle.answer_notation.specs.ContentJson.{label_data}
+use Rattle.resource_text.specs.ContentJson.{label_data}
 use Rattle.diff_command.specs.DiffLines.{same_count}
 use Rattle.diff_command.specs.Telling.{ToldOf, RemovedTold, AddedTold, SameTold, ChangedTold}
 

@@ -10,8 +10,8 @@ ghost use Rattle.diff_command.specs.Judged.{told_of};
 
 use crate::lines::{same_count, shared_count};
 use crate::told::Told;
-use answer_notation::label_json;
 use command_base::{LocaleRule, rows_set_aside};
+use resource_text::name_json;
 use stack_diff::{NamePair, PackageNames, Stacks};
 use std::alloc::{AllocError, Global};
 use std::io::{self, Write};
@@ -77,22 +77,10 @@ pub(crate) fn names_json(
 {
     let mut names = Vec::with_capacity(alloc, pairs.len())?;
     for pair in pairs {
-        let name = name_json(alloc, packages, pair)?;
+        let name = name_json(alloc, packages, &pair.label)?;
         names.push(name)?;
     }
     Ok(names)
-}
-
-fn name_json(
-    alloc: Global,
-    packages: &PackageNames<'_>,
-    pair: &NamePair<'_>,
-) -> Result<Vec<u8>, AllocError>
-    ensures { IfOk result (λ name. name.items ≡ name_json packages.now (pair_of pair.now)) }
-{
-    let name = label_json(alloc, packages, &pair.label)?;
-    let text = name.to_vec(alloc)?;
-    Ok(text)
 }
 
 #[tactic(auto, unfolding(crate::specs::JsonLines::lines_of_names), using(contract_words::proofs::TextSteps::puts))]

@@ -1,33 +1,144 @@
--- The JSON of a change has no float.
-use Rattle.std.proofs.Common.{◌≡◌, ℕ, false, List, map, refl}
+-- No JSON of this crate has a float.
+use Rattle.std.proofs.Common.{◌≡◌, ℕ, Bool, true, false, if◌then◌else◌, List, [], ◌∷◌, map, fold, refl}
+use Rattle.std.proofs.lemmas.Bool.{or_from, or_parts}
 use Rattle.std.specs.Prelude.{codes}
-use Rattle.serde_json.specs.Data.{Members, no_members, put}
-use Rattle.serde_json.specs.Written.{has_float}
-use Rattle.stack_diff.specs.config_box.box_answers.NumberSet.{SetOf}
+use Rattle.std.specs.Cmp.Lexicographic.{slice_cmp}
+use Rattle.std.specs.Ordering.{nat_cmp, match_ordering}
+use Rattle.std.specs.declared.cmp.Ordering.{Ordering}
+use Rattle.std.specs.declared.cmp.Ordering.TheVariants as order
+use Rattle.serde_json.specs.Data.{Data, string, Members, no_members, member, put}
+use Rattle.serde_json.specs.View.{items_of}
+use Rattle.serde_json.specs.Written.{has_float, items_have_float, members_have_float}
+use Rattle.config_box.specs.config_record.declared.coord.Coord.{Coord}
+use Rattle.config_box.specs.config_record.Coord.{all_coords, name_of}
+use Rattle.config_box.specs.box_answers.NumberSet.{SetOf, RangeOf, NumbersOf, LocalesOf}
+use Rattle.config_box.specs.box_answers.Members.{set_at}
+use Rattle.notation.specs.Narrower.{is_narrower}
+use Rattle.names.specs.Packages.{PackageNameOf}
+use Rattle.answer_text.specs.Content.{ValueContentOf, StringOf, GarbledOf, BrokenOf, ReferenceOf, AttributeOf, OtherOf, RowKeyOf, PlaceOf, QuantityOf, CalledOf, RowContentOf, ContentOf, ValueOf, BagOf, AbsentOf, TooManyReferencesOf, TooManyParentsOf}
+use Rattle.answer_text.specs.InForm.{value_in, row_value_in}
+use Rattle.answer_text.specs.ValueText.{broken_text}
+use Rattle.notation.specs.declared.form.Form.TheVariants.{Android}
+use Rattle.resource_text.specs.TextJson.{text_data, number_data, list_data}
+use Rattle.resource_text.specs.ContentJson.{label_data, with_value, value_data, key_data, row_value_data, row_data, with_content, content_data}
+use Rattle.resource_text.specs.DevicesJson.{locale_data, set_data, with_narrower, devices_data}
 use Rattle.stack_diff.specs.Difference.{RowDifferenceOf, RowRemoved, RowAdded, RowChanged, DifferenceOf, RowsDiffer, ContentsDiffer, FromNothing}
-use Rattle.stack_diff.specs.names.Packages.{PackageNameOf}
-use Rattle.answer_text.specs.Content.{RowKeyOf, ValueContentOf}
-use Rattle.answer_notation.proofs.NoFloat.{NoFloat, put-no_float, items-no_float, text-no_float, key-no_float, row_value-no_float, content-no_float, devices-no_float}
-use Rattle.answer_notation.specs.ContentJson.{key_data, row_value_data, content_data}
-use Rattle.answer_notation.specs.DevicesJson.{devices_data}
-use Rattle.answer_notation.specs.TextJson.{text_data, list_data}
 use Rattle.resource_text.specs.ChangeJson.{device_words, with_key, with_row_value, with_row_change, row_change_data, with_devices, with_difference, change_data}
+
+-- ---- lists
+
+pub items-no_float : {X : Type 0} (f : X → Data) → ((x : X) → has_float (f x) ≡ false) → (xs : List X) → items_have_float (items_of (map f xs)) ≡ false
+items-no_float f none [] = refl
+items-no_float f none (x ∷ xs) = or_from (has_float (f x)) (items_have_float (items_of (map f xs))) (none x) (items-no_float f none xs)
+
+-- ---- objects
+
+abbrev pub NoFloat : Members → Type 0
+NoFloat ms = members_have_float ms ≡ false
+
+at_order : (o : Ordering) (k l : List ℕ) (d e : Data) (ms : Members) → has_float d ≡ false → has_float e ≡ false → NoFloat ms → NoFloat (put k d ms)
+    → NoFloat (match_ordering o (member k d (member l e ms)) (member l d ms) (member l e (put k d ms)))
+at_order order.Less k l d e ms new old others more = or_from (has_float d) _ new (or_from (has_float e) _ old others)
+at_order order.Equal k l d e ms new old others more = or_from (has_float d) _ new others
+at_order order.Greater k l d e ms new old others more = or_from (has_float e) _ old more
+
+pub put-no_float : (k : List ℕ) (d : Data) (ms : Members) → has_float d ≡ false → NoFloat ms → NoFloat (put k d ms)
+put-no_float k d no_members new others = or_from (has_float d) false new refl
+put-no_float k d (member l e ms) new others =
+    let parts = or_parts (has_float e) (members_have_float ms) others in
+    at_order (slice_cmp nat_cmp k l) k l d e ms new parts.0 parts.1 (put-no_float k d ms new parts.1)
+
+-- ---- contents
+
+pub text-no_float : (text : List ℕ) → has_float (text_data text) ≡ false
+unfolding text_data
+text-no_float text = refl
+
+with_value-no_float : (packages : List PackageNameOf) (value : ValueContentOf) (ms : Members) → NoFloat ms → NoFloat (with_value packages value ms)
+unfolding with_value text_data
+with_value-no_float packages (StringOf text) ms none = put-no_float (codes "string") (string text) ms refl none
+with_value-no_float packages (GarbledOf text) ms none = put-no_float (codes "garbled") (text_data text) ms refl none
+with_value-no_float packages (BrokenOf broken) ms none = put-no_float (codes "broken") (text_data (broken_text broken)) ms refl none
+with_value-no_float packages (ReferenceOf label) ms none = put-no_float (codes "reference") (label_data packages label) ms refl none
+with_value-no_float packages (AttributeOf label) ms none = put-no_float (codes "attribute") (label_data packages label) ms refl none
+with_value-no_float packages (OtherOf value) ms none =
+    let kind = put-no_float (codes "kind") (number_data value.kind) ms refl none in
+    put-no_float (codes "word") (number_data value.word) (put (codes "kind") (number_data value.kind) ms) refl kind
+
+pub value-no_float : (packages : List PackageNameOf) (value : ValueContentOf) (xml : List ℕ) → has_float (value_data packages value xml) ≡ false
+unfolding value_data text_data
+value-no_float packages value xml = with_value-no_float packages value (put (codes "xml") (text_data xml) no_members) refl
+
+pub key-no_float : (packages : List PackageNameOf) (key : RowKeyOf) → has_float (key_data packages key) ≡ false
+unfolding key_data text_data
+key-no_float packages (PlaceOf place) = refl
+key-no_float packages (QuantityOf quantity) = refl
+key-no_float packages (CalledOf label) = refl
+
+pub row_value-no_float : (packages : List PackageNameOf) (key : RowKeyOf) (value : ValueContentOf) → has_float (row_value_data packages key value) ≡ false
+row_value-no_float packages key value = value-no_float packages value (row_value_in Android packages key value)
+
+pub row-no_float : (packages : List PackageNameOf) (row : RowContentOf) → has_float (row_data packages row) ≡ false
+unfolding row_data
+row-no_float packages row =
+    let key = put-no_float (codes "key") (key_data packages row.key) no_members (key-no_float packages row.key) refl in
+    put-no_float (codes "value") (row_value_data packages row.key row.value) (put (codes "key") (key_data packages row.key) no_members)
+    (row_value-no_float packages row.key row.value) key
+
+pub with_content-no_float : (packages : List PackageNameOf) (content : ContentOf) (ms : Members) → NoFloat ms → NoFloat (with_content packages content ms)
+unfolding with_content text_data
+with_content-no_float packages (ValueOf value) ms none =
+    let xml = value_in Android packages value in put-no_float (codes "value") (value_data packages value xml) ms (value-no_float packages value xml) none
+with_content-no_float packages (BagOf rows) ms none =
+    put-no_float (codes "bag") (list_data (map (row_data packages) rows)) ms (items-no_float (row_data packages) (row-no_float packages) rows) none
+with_content-no_float packages (AbsentOf label) ms none = put-no_float (codes "absent") (label_data packages label) ms refl none
+with_content-no_float packages (TooManyReferencesOf label) ms none = put-no_float (codes "tooManyReferences") (label_data packages label) ms refl none
+with_content-no_float packages (TooManyParentsOf label) ms none = put-no_float (codes "tooManyParents") (label_data packages label) ms refl none
+
+pub content-no_float : (packages : List PackageNameOf) (content : ContentOf) → has_float (content_data packages content) ≡ false
+content-no_float packages content = with_content-no_float packages content no_members refl
+
+-- ---- devices
+
+pub set-no_float : (set : SetOf) → has_float (set_data set) ≡ false
+unfolding set_data text_data
+set-no_float (RangeOf low high) = put-no_float (codes "to") (number_data high) (put (codes "from") (number_data low) no_members) refl refl
+set-no_float (NumbersOf numbers) = items-no_float number_data (λ number. refl) numbers
+set-no_float (LocalesOf numbers) = items-no_float locale_data (λ number. refl) numbers
+
+either : (b : Bool) (ms others : Members) → NoFloat ms → NoFloat others → NoFloat (if b then ms else others)
+either true ms others first second = first
+either false ms others first second = second
+
+with-no_float : (whole part : List SetOf) (ms : Members) (c : Coord) → NoFloat ms → NoFloat (with_narrower whole part ms c)
+unfolding with_narrower
+with-no_float whole part ms c none = either (is_narrower whole part c) _ ms (put-no_float (name_of c) (set_data (set_at part c)) ms (set-no_float (set_at part c)) none) none
+
+narrower-no_float : (whole part : List SetOf) (ms : Members) (coords : List Coord) → NoFloat ms → NoFloat (fold (with_narrower whole part) ms coords)
+narrower-no_float whole part ms [] none = none
+narrower-no_float whole part ms (c ∷ coords) none = narrower-no_float whole part (with_narrower whole part ms c) coords (with-no_float whole part ms c none)
+
+pub devices-no_float : (whole part : List SetOf) → has_float (devices_data whole part) ≡ false
+unfolding devices_data
+devices-no_float whole part = narrower-no_float whole part no_members all_coords refl
+
+-- ---- changes
 
 with_key-no_float : (packages : List PackageNameOf) (key : RowKeyOf) (ms : Members) → NoFloat ms → NoFloat (with_key packages key ms)
 with_key-no_float packages key ms none = put-no_float (codes "key") (key_data packages key) ms (key-no_float packages key) none
 
-with_value-no_float : (packages : List PackageNameOf) (name : List ℕ) (key : RowKeyOf) (value : ValueContentOf) (ms : Members)
+with_row_value-no_float : (packages : List PackageNameOf) (name : List ℕ) (key : RowKeyOf) (value : ValueContentOf) (ms : Members)
     → NoFloat ms → NoFloat (with_row_value packages name key value ms)
-with_value-no_float packages name key value ms none = put-no_float name (row_value_data packages key value) ms (row_value-no_float packages key value) none
+with_row_value-no_float packages name key value ms none = put-no_float name (row_value_data packages key value) ms (row_value-no_float packages key value) none
 
 row_change-no_float : (packages : List PackageNameOf) (row : RowDifferenceOf) → has_float (row_change_data packages row) ≡ false
 unfolding with_row_change
-row_change-no_float packages (RowRemoved row) = with_value-no_float packages (codes "before") row.key row.value (with_key packages row.key no_members) (with_key-no_float packages row.key no_members refl)
-row_change-no_float packages (RowAdded row) = with_value-no_float packages (codes "after") row.key row.value (with_key packages row.key no_members) (with_key-no_float packages row.key no_members refl)
+row_change-no_float packages (RowRemoved row) = with_row_value-no_float packages (codes "before") row.key row.value (with_key packages row.key no_members) (with_key-no_float packages row.key no_members refl)
+row_change-no_float packages (RowAdded row) = with_row_value-no_float packages (codes "after") row.key row.value (with_key packages row.key no_members) (with_key-no_float packages row.key no_members refl)
 row_change-no_float packages (RowChanged key before after) =
     let keyed = with_key packages key no_members in
-    let none = with_value-no_float packages (codes "before") key before keyed (with_key-no_float packages key no_members refl) in
-    with_value-no_float packages (codes "after") key after (with_row_value packages (codes "before") key before keyed) none
+    let none = with_row_value-no_float packages (codes "before") key before keyed (with_key-no_float packages key no_members refl) in
+    with_row_value-no_float packages (codes "after") key after (with_row_value packages (codes "before") key before keyed) none
 
 difference-no_float : (packages : List PackageNameOf) (difference : DifferenceOf) → NoFloat (with_difference packages difference no_members)
 unfolding with_difference

@@ -7,9 +7,9 @@ use Rattle.stack_diff.specs.config_box.box_answers.NumberSet.{SetOf}
 use Rattle.stack_diff.specs.Difference.{RowDifferenceOf, RowRemoved, RowAdded, RowChanged, DifferenceOf, RowsDiffer, ContentsDiffer, FromNothing}
 use Rattle.stack_diff.specs.names.Packages.{PackageNameOf}
 use Rattle.answer_text.specs.Content.{RowKeyOf, ValueContentOf}
-use Rattle.answer_notation.specs.ContentJson.{key_data, row_value_data, content_data}
-use Rattle.answer_notation.specs.DevicesJson.{devices_data}
-use Rattle.answer_notation.specs.TextJson.{text_data, list_data}
+use Rattle.resource_text.specs.ContentJson.{key_data, row_value_data, content_data}
+use Rattle.resource_text.specs.DevicesJson.{devices_data}
+use Rattle.resource_text.specs.TextJson.{text_data, list_data}
 use Rattle.resource_text.specs.DevicesText.{devices_in}
 
 -- ---- rows

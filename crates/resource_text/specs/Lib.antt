@@ -4,6 +4,9 @@ pub mod DevicesText
 pub mod ContentText
 pub mod BagRows
 pub mod DifferenceText
+pub mod TextJson
+pub mod ContentJson
+pub mod DevicesJson
 pub mod ChangeJson
 pub mod ChangeBlock
 pub mod Unfolded

@@ -5,12 +5,14 @@ ghost use Rattle.serde_json.specs.Data.{put as with_member};
 ghost use Rattle.serde_json.specs.View.{view, members_view};
 ghost use Rattle.stack_diff.specs.DifferenceSeen.{row_difference_of, difference_of};
 ghost use Rattle.answer_text.specs.ContentSeen.{value_content_of, row_key_of, content_of};
-ghost use Rattle.answer_notation.specs.ContentJson.{content_data};
-ghost use Rattle.answer_notation.specs.TextJson.{text_data};
+ghost use Rattle.resource_text.specs.ContentJson.{content_data};
+ghost use Rattle.resource_text.specs.TextJson.{text_data};
 ghost use Rattle.resource_text.specs.ChangeJson.{with_key, with_row_value, with_row_change, row_change_data, device_words, with_devices, with_difference, change_data};
 
+use crate::content_json::{content_json, key_json, row_value_json};
+use crate::devices_json::devices_json;
 use crate::devices_text::write_devices_in;
-use answer_notation::{content_json, devices_json, key_json, row_value_json, text_json};
+use crate::text_json::text_json;
 use answer_text::{Content, Form, RowKey, ValueContent};
 use serde_json::{Map, Value, put};
 use stack_diff::{ConfigBox, Difference, PackageNames, RowDifference};

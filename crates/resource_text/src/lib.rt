@@ -17,11 +17,14 @@
 mod bag_rows;
 mod block;
 mod change_json;
+mod content_json;
 mod content_text;
+mod devices_json;
 mod devices_text;
 mod difference_text;
 mod line_form;
 mod rejection;
+mod text_json;
 mod verdict;
 
 pub use answer_notation::Naming;
@@ -31,6 +34,7 @@ pub use cert_maker::{
     Cert, ConfigBox, Goal, Made, Omitted, Omitting, Progress, Rule, Shown, Unwatched, Verdict,
 };
 pub use command_base::{LayersFault, Side, ToolFault, fault_text};
+pub use content_json::name_json;
 pub use line_form::LineForm;
 pub use rejection::{Rejection, write_rejections_in, write_verdict_in};
 pub use verdict::{device_with_end, verdict_text};

@@ -4,10 +4,10 @@ ghost use Rattle.std.specs.Prelude.{◌≡◌, map, fold, IfOk, OnOk};
 ghost use Rattle.serde_json.specs.View.{view, members_view};
 ghost use Rattle.config_box.specs.BoxSeen.{values_seen};
 ghost use Rattle.config_box.specs.box_answers.NumberSet.{RangeOf, locale_numbers};
-ghost use Rattle.answer_notation.specs.TextJson.{number_data};
-ghost use Rattle.answer_notation.specs.DevicesJson.{locale_data, set_data, with_narrower, devices_data};
+ghost use Rattle.resource_text.specs.TextJson.{number_data};
+ghost use Rattle.resource_text.specs.DevicesJson.{locale_data, set_data, with_narrower, devices_data};
 
-use crate::json_text::text_json;
+use crate::text_json::text_json;
 use config_box::{ConfigBox, Coord, Locale, Values};
 use locales::write_locale;
 use notation::is_narrower;
@@ -21,7 +21,11 @@ use std::alloc::{AllocError, Global};
 /// let devices = devices_json(alloc, &phones, &some)?; // {"density":{"from":120,"to":197},"locale":["de-AT"]}
 /// ```
 #[tactic(auto, unfolding(crate::specs::DevicesJson::devices_data, crate::specs::Unfolded::all_coords))]
-pub fn devices_json(alloc: Global, whole: &ConfigBox, part: &ConfigBox) -> Result<Value, AllocError>
+pub(crate) fn devices_json(
+    alloc: Global,
+    whole: &ConfigBox,
+    part: &ConfigBox,
+) -> Result<Value, AllocError>
     ensures { IfOk result (λ devices. view devices ≡ devices_data whole.now part.now) }
 {
     let mut narrower = Map::new(alloc);

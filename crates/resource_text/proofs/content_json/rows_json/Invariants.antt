@@ -1,8 +1,8 @@
 use Rattle.std.proofs.Common.{◌≡◌, map, take}
 use Rattle.serde_json.specs.View.{view}
 use Rattle.answer_text.specs.ContentSeen.{row_content_of}
-use Rattle.answer_notation.specs.ContentJson.{row_data}
-use Rattle.answer_notation.proofs.json_content.rows_json.Given as goal
+use Rattle.resource_text.specs.ContentJson.{row_data}
+use Rattle.resource_text.proofs.content_json.rows_json.Given as goal
 
 -- the values of the rows so far
 abbrev pub invariant-loop-row : goal.invariant-loop-row

@@ -1,7 +1,7 @@
 use Rattle.std.proofs.Common.{◌∙◌, ap}
 use Rattle.serde_json.specs.Written.{has_float, compact_text}
-use Rattle.answer_notation.proofs.NoFloat.{text-no_float}
-use Rattle.diff_command.proofs.json_lines.name_json.Goals as goal
+use Rattle.resource_text.proofs.NoFloat.{text-no_float}
+use Rattle.resource_text.proofs.content_json.name_json.Goals as goal
 
 pub returns : goal.returns
 returns c =

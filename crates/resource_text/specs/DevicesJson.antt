@@ -8,7 +8,7 @@ use Rattle.config_box.specs.config_record.locales.Text.{locale_text}
 use Rattle.config_box.specs.box_answers.NumberSet.{SetOf, RangeOf, NumbersOf, LocalesOf}
 use Rattle.config_box.specs.box_answers.Members.{set_at}
 use Rattle.notation.specs.Narrower.{is_narrower}
-use Rattle.answer_notation.specs.TextJson.{text_data, number_data, list_data}
+use Rattle.resource_text.specs.TextJson.{text_data, number_data, list_data}
 
 -- ---- the values of a coordinate
 

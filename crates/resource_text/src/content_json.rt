@@ -2,15 +2,16 @@
 
 ghost use Rattle.std.specs.Prelude.{◌≡◌, map, IfOk, OnOk};
 ghost use Rattle.serde_json.specs.View.{view, members_view};
+ghost use Rattle.serde_json.specs.Written.{compact_text};
 ghost use Rattle.names.specs.Label.{label_of};
 ghost use Rattle.answer_text.specs.ContentSeen.{value_content_of, row_key_of, row_content_of, content_of};
 ghost use Rattle.answer_text.specs.InForm.{value_in, key_in};
 ghost use Rattle.answer_text.specs.ValueText.{value_content_text};
-ghost use Rattle.answer_notation.specs.TextJson.{text_data};
-ghost use Rattle.answer_notation.specs.ContentJson.{label_data, with_value, value_data, key_data, row_value_data, row_data, with_content, content_data};
+ghost use Rattle.resource_text.specs.TextJson.{text_data};
+ghost use Rattle.resource_text.specs.ContentJson.{label_data, with_value, value_data, key_data, row_value_data, row_data, with_content, content_data};
 ghost use Rattle.notation.specs.declared.form.Form.TheVariants.{Android};
 
-use crate::json_text::text_json;
+use crate::text_json::text_json;
 use answer_text::{
     Content, Form, RowContent, RowKey, ValueContent, write_key_in, write_row_value_in,
     write_value_content, write_value_in,
@@ -21,8 +22,25 @@ use std::alloc::{AllocError, Global};
 
 // ---- names
 
-/// What a resource is called, as the text has it: its name, or its id.
-pub fn label_json(
+/// What a resource is called, as the text of a JSON value.
+///
+/// ```text
+/// let name = name_json(alloc, &packages, &pair.label)?; // "dimen/margin", in quotes
+/// ```
+pub fn name_json(
+    alloc: Global,
+    packages: &PackageNames<'_>,
+    label: &Label<'_>,
+) -> Result<Vec<u8>, AllocError>
+    ensures { IfOk result (λ text. text.items ≡ compact_text (label_data packages.now (label_of label.now))) }
+{
+    let name = label_json(alloc, packages, label)?;
+    let text = name.to_vec(alloc)?;
+    Ok(text)
+}
+
+// The same, as the value: its name, or its id.
+fn label_json(
     alloc: Global,
     packages: &PackageNames<'_>,
     label: &Label<'_>,
@@ -39,12 +57,8 @@ pub fn label_json(
 
 // ---- values
 
-/// What a value says.
-///
-/// ```text
-/// let said = value_json(alloc, &packages, &value)?; // {"kind":5,"word":4097,"xml":"16dp"}
-/// ```
-pub fn value_json(
+// What a value says, as `{"kind":5,"word":4097,"xml":"16dp"}`.
+fn value_json(
     alloc: Global,
     packages: &PackageNames<'_>,
     value: &ValueContent<'_>,
@@ -132,7 +146,7 @@ fn raw_json(
 
 /// What tells a row from the others of its bag: a place by its number, else a quantity or a name.
 #[tactic(auto, unfolding(crate::specs::ContentJson::key_data))]
-pub fn key_json(
+pub(crate) fn key_json(
     alloc: Global,
     packages: &PackageNames<'_>,
     key: &RowKey<'_>,
@@ -161,7 +175,7 @@ fn key_text_json(
 }
 
 /// The value of a row with this key.
-pub fn row_value_json(
+pub(crate) fn row_value_json(
     alloc: Global,
     packages: &PackageNames<'_>,
     key: &RowKey<'_>,
@@ -216,7 +230,7 @@ fn rows_json(
 /// ```text
 /// let said = content_json(alloc, &packages, &content)?; // {"value":{"kind":5,"word":4097,"xml":"16dp"}}
 /// ```
-pub fn content_json(
+pub(crate) fn content_json(
     alloc: Global,
     packages: &PackageNames<'_>,
     content: &Content<'_>,
@@ -224,12 +238,12 @@ pub fn content_json(
     ensures { IfOk result (λ json. view json ≡ content_data packages.now (content_of content.now)) }
 {
     let mut members = Map::new(alloc);
-    put_content(alloc, packages, content, &mut members)?;
+    put_said(alloc, packages, content, &mut members)?;
     Ok(Value::Object(members))
 }
 
 #[tactic(auto, unfolding(crate::specs::ContentJson::with_content))]
-fn put_content(
+fn put_said(
     alloc: Global,
     packages: &PackageNames<'_>,
     content: &Content<'_>,

@@ -2,7 +2,7 @@
 
 ghost use Rattle.std.specs.Prelude.{◌≡◌, IfOk};
 ghost use Rattle.serde_json.specs.View.{view};
-ghost use Rattle.answer_notation.specs.TextJson.{text_data};
+ghost use Rattle.resource_text.specs.TextJson.{text_data};
 
 use bstr::ByteSlice;
 use serde_json::Value;
@@ -10,7 +10,7 @@ use std::alloc::{AllocError, Global};
 
 /// A text; in bytes that are no UTF-8, U+FFFD stands for what is no character.
 #[tactic(auto, unfolding(crate::specs::TextJson::text_data))]
-pub fn text_json(alloc: Global, text: &[u8]) -> Result<Value, AllocError>
+pub(crate) fn text_json(alloc: Global, text: &[u8]) -> Result<Value, AllocError>
     ensures { IfOk result (λ value. view value ≡ text_data text.now) }
 {
     let text = text.to_str_lossy(alloc)?;

@@ -1,8 +1,8 @@
 use Rattle.std.proofs.Common.{◌≡◌, map, take}
 use Rattle.serde_json.specs.View.{view}
 use Rattle.config_box.specs.config_record.locales.LocaleNumber.{locale_number}
-use Rattle.answer_notation.specs.DevicesJson.{locale_data}
-use Rattle.answer_notation.proofs.json_devices.locales_json.Given as goal
+use Rattle.resource_text.specs.DevicesJson.{locale_data}
+use Rattle.resource_text.proofs.devices_json.locales_json.Given as goal
 
 -- the values of the locales so far
 abbrev pub invariant-loop-locale : goal.invariant-loop-locale

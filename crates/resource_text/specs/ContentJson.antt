@@ -8,7 +8,7 @@ use Rattle.names.specs.Packages.{PackageNameOf}
 use Rattle.answer_text.specs.Content.{ValueContentOf, StringOf, GarbledOf, BrokenOf, ReferenceOf, AttributeOf, OtherOf, RowKeyOf, PlaceOf, QuantityOf, CalledOf, RowContentOf, ContentOf, ValueOf, BagOf, AbsentOf, TooManyReferencesOf, TooManyParentsOf}
 use Rattle.answer_text.specs.InForm.{value_in, key_in, row_value_in}
 use Rattle.answer_text.specs.ValueText.{broken_text}
-use Rattle.answer_notation.specs.TextJson.{text_data, number_data, list_data}
+use Rattle.resource_text.specs.TextJson.{text_data, number_data, list_data}
 
 -- ---- names
 

@@ -1,7 +1,7 @@
 use Rattle.std.proofs.Common.{◌≡◌, map, take}
 use Rattle.serde_json.specs.View.{view}
-use Rattle.answer_notation.specs.TextJson.{number_data}
-use Rattle.answer_notation.proofs.json_devices.numbers_json.Given as goal
+use Rattle.resource_text.specs.TextJson.{number_data}
+use Rattle.resource_text.proofs.devices_json.numbers_json.Given as goal
 
 -- the values of the numbers so far
 abbrev pub invariant-loop-number : goal.invariant-loop-number

@@ -1,7 +1,7 @@
 use Rattle.std.proofs.Common.{◌≡◌, fold, take}
 use Rattle.serde_json.specs.View.{members_view}
-use Rattle.answer_notation.specs.DevicesJson.{with_narrower}
-use Rattle.answer_notation.proofs.json_devices.put_narrower.Given as goal
+use Rattle.resource_text.specs.DevicesJson.{with_narrower}
+use Rattle.resource_text.proofs.devices_json.put_narrower.Given as goal
 
 -- with those of the coordinates so far
 abbrev pub invariant-loop-coord : goal.invariant-loop-coord
