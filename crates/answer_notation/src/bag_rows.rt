@@ -37,23 +37,10 @@ fn write_rows<W: Write + Drop>(
     ensures { Writes W.contents out.old out.new result (flat_map (row_told naming.now keys) (enumerate_from 0 rows.now)) }
 {
     for (place, row) in rows.iter().enumerate() {
-        write_row(naming, keys, place, *row, out)?;
+        naming.write_row(keys, place, *row, out)?;
+        out.write_all(b" from ")?;
+        naming.write_layer(row.layer, out)?;
+        out.write_all(b"\n")?;
     }
     Ok(())
-}
-
-#[tactic(auto, unfolding(crate::specs::BagNotation::row_told))]
-fn write_row<W: Write + Drop>(
-    naming: &Naming<'_, '_, '_>,
-    keys: Keys,
-    place: usize,
-    row: BagRow,
-    out: &mut W,
-) -> io::Result<()>
-    ensures { Writes W.contents out.old out.new result (row_told naming.now keys (place, row)) }
-{
-    naming.write_row(keys, place, row, out)?;
-    out.write_all(b" from ")?;
-    naming.write_layer(row.layer, out)?;
-    out.write_all(b"\n")
 }

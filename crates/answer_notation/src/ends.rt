@@ -6,7 +6,7 @@ ghost use Rattle.contract_words.specs.Writes.{Writes};
 ghost use Rattle.reference_resolver.specs.config_precedence.config_record.DeviceSeen.{device_numbers};
 ghost use Rattle.answer_text.specs.overlay_map.Candidates.{cand_of};
 ghost use Rattle.answer_notation.specs.Naming.{id_notation};
-ghost use Rattle.answer_notation.specs.EndNotation.{origin_notation, end_notation, end_within, end_line, ends_notation};
+ghost use Rattle.answer_notation.specs.EndNotation.{origin_notation, end_notation, end_within, ends_notation};
 
 use crate::last::last_within;
 use crate::naming::Naming;
@@ -41,24 +41,12 @@ fn write_ends<W: Write + Drop>(
     ensures { Writes W.contents out.old out.new result (ends_notation naming.now (device_numbers device.now) ids.now) }
 {
     for id in ids {
-        write_end_line(naming, device, *id, out)?;
+        naming.write_id(*id, out)?;
+        out.write_all(b" ")?;
+        write_end_within(naming, device, *id, REFERENCES_FOLLOWED, out)?;
+        out.write_all(b"\n")?;
     }
     Ok(())
-}
-
-#[tactic(auto, unfolding(crate::specs::EndNotation::end_line))]
-fn write_end_line<W: Write + Drop>(
-    naming: &Naming<'_, '_, '_>,
-    device: &Device,
-    id: ResId,
-    out: &mut W,
-) -> io::Result<()>
-    ensures { Writes W.contents out.old out.new result (end_line naming.now (device_numbers device.now) id) }
-{
-    naming.write_id(id, out)?;
-    out.write_all(b" ")?;
-    write_end_within(naming, device, id, REFERENCES_FOLLOWED, out)?;
-    out.write_all(b"\n")
 }
 
 /// Writes where an id ends for a device, where at most so many references are followed.

@@ -41,21 +41,10 @@ fn write_styles<W: Write + Drop>(
     ensures { Writes W.contents out.old out.new result (flat_map (next_style naming.now) styles.now) }
 {
     for style in styles {
-        write_next_style(naming, *style, out)?;
+        out.write_all(b" ")?;
+        naming.write_id(*style, out)?;
     }
     Ok(())
-}
-
-#[tactic(auto, unfolding(crate::specs::GoalNotation::next_style))]
-fn write_next_style<W: Write + Drop>(
-    naming: &Naming<'_, '_, '_>,
-    style: ResId,
-    out: &mut W,
-) -> io::Result<()>
-    ensures { Writes W.contents out.old out.new result (next_style naming.now style) }
-{
-    out.write_all(b" ")?;
-    naming.write_id(style, out)
 }
 
 /// Writes where a goal ends at a device.

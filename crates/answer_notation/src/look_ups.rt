@@ -155,13 +155,12 @@ fn push_slot(
 pub(crate) fn some_has(stack: &Stack<'_>, ids: &[ResId], coord: Coord) -> bool
     ensures { result ≡ list_any (id_has stack.now coord) (map (λ id. id.0) ids.now) }
 {
-    is_some(stack, ids, coord)
-}
-
-fn is_some(stack: &Stack<'_>, ids: &[ResId], coord: Coord) -> bool
-    ensures { result ≡ list_any (λ id. id_has stack.now coord id.0) ids.now }
-{
-    ids.iter().any(|id| id_has(stack, *id, coord))
+    'ids: for id in ids {
+        if id_has(stack, *id, coord) {
+            return true;
+        }
+    }
+    false
 }
 
 fn id_has(stack: &Stack<'_>, id: ResId, coord: Coord) -> bool

@@ -162,5 +162,10 @@ fn write_path<W: Write + Drop>(path: &str, out: &mut W) -> io::Result<()>
 fn is_seen(path: &[u8]) -> bool
     ensures { result ≡ list_all is_ascii_graphic path.now }
 {
-    path.iter().all(|byte| byte.is_ascii_graphic())
+    'bytes: for byte in path {
+        if !byte.is_ascii_graphic() {
+            return false;
+        }
+    }
+    true
 }

@@ -8,7 +8,7 @@ ghost use Rattle.answer_text.specs.type_chunks.Row.{row_of};
 ghost use Rattle.answer_notation.specs.TableNotation.{parent_notation, bag_notation, cell_notation, map_row_notation, map_rows_notation, row_end_notation};
 
 use crate::naming::Naming;
-use answer_text::{BagRow, Cell, Keys, MapRows, ResId, Row, Value};
+use answer_text::{BagRow, Cell, Keys, MapRows, ResId, Row, Value, write_named_number};
 use notation::write_config;
 use std::io::{self, Write};
 
@@ -54,7 +54,7 @@ fn write_bag<W: Write + Drop>(
 {
     out.write_all(b"bag")?;
     write_parent(naming, parent, out)?;
-    write!(out, " count {count}")
+    write_named_number(" count", count as u128, out)
 }
 
 #[tactic(auto, unfolding(crate::specs::TableNotation::parent_notation))]
