@@ -1,2 +1,3 @@
 pub use Rattle.cert_maker.proofs.cert_tree
 pub mod NoFloat
+pub mod Mapped

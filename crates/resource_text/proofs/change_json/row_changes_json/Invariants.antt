@@ -6,4 +6,4 @@ use Rattle.resource_text.proofs.change_json.row_changes_json.Given as goal
 
 -- the values of the rows so far
 abbrev pub invariant-loop-row : goal.invariant-loop-row
-invariant-loop-row l = map view l.values.items ≡ map (row_change_data l.packages) (map row_difference_of (take l.row-index l.rows))
+invariant-loop-row l = map view l.values.items ≡ map (λ row. row_change_data l.packages (row_difference_of row)) (take l.row-index l.rows)

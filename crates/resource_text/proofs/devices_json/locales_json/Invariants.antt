@@ -6,4 +6,4 @@ use Rattle.resource_text.proofs.devices_json.locales_json.Given as goal
 
 -- the values of the locales so far
 abbrev pub invariant-loop-locale : goal.invariant-loop-locale
-invariant-loop-locale l = map view l.values.items ≡ map locale_data (map locale_number (take l.locale-index l.locales))
+invariant-loop-locale l = map view l.values.items ≡ map (λ locale. locale_data (locale_number locale)) (take l.locale-index l.locales)
