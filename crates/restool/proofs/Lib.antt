@@ -7,4 +7,5 @@ pub mod NamedCommand
 mod IdTexts
 mod GoalWords
 mod Unread
+mod LeftLines
 mod Beside

@@ -1,7 +1,9 @@
 -- What is said beside an answer of the maps that were made for its layers.
-use Rattle.std.specs.Prelude.{◌≡◌, ◌⊎◌, ◌||◌, ◌++◌, ℕ, Bool, false, List, [], Option, Some, None, Result, Ok, Err, IfSome, OnOk, if◌then◌else◌}
+use Rattle.std.specs.Prelude.{◌≡◌, ◌≢◌, ◌⊎◌, ◌||◌, ◌++◌, ℕ, Bool, false, List, [], Option, Some, None, Result, Ok, Err, IfSome, OnOk, Vec, if◌then◌else◌}
+use Rattle.std.specs.declared.alloc.Global.{Global}
 use Rattle.std.specs.Io.KnownBytes.{Appends}
 use Rattle.resource_tool.specs.command_base.answer_text.OnLine.{on_line}
+use Rattle.resource_tool.specs.command_base.declared.fault.ToolFault.TheVariants.{OutOfMemory}
 use Rattle.resource_tool.specs.command_base.declared.side.Side.{Side}
 use Rattle.resource_tool.specs.command_base.declared.side.Side.TheVariants.{Old, New}
 use Rattle.resource_tool.specs.command_base.declared.status.Status.{Status}
@@ -11,7 +13,7 @@ use Rattle.resource_tool.specs.command_base.Inputs.{Places, layers_of, layers_on
 use Rattle.resource_tool.specs.command_base.LeftOut.{has_overlays, left_in, lines_or_none}
 use Rattle.resource_tool.specs.command_base.ListWord.{layers_in_word}
 use Rattle.resource_tool.specs.command_base.StackBytes.{LayerBytes}
-use Rattle.resource_tool.specs.command_base.Stop.{StopOf}
+use Rattle.resource_tool.specs.command_base.Stop.{StopOf, stop_of, tool}
 use Rattle.restool.specs.declared.left.LayerWords as lent
 
 -- words that give layers
@@ -62,3 +64,15 @@ abbrev pub words_seen : lent.LayerWords → LayerWordsOf
 words_seen lent.TheVariants.None = no_layers
 words_seen (lent.TheVariants.One word) = layers word.now
 words_seen (lent.TheVariants.Both old new) = both_layers old.now new.now
+
+-- Where it is known what the places have: a call told what the made maps leave out, or that the layers are not read. Where no maps
+-- are made it told nothing.
+abbrev pub TellsLeft : Option Places → LayerWordsOf → Result (Vec ℕ Global) Stop → Type 0
+TellsLeft known words (Ok lines) = IfSome known (λ places. lines.items ≡ left_lines places words) × (name_overlays words ≡ false → lines.items ≡ [])
+TellsLeft known words (Err stop) = IfSome known (λ places. stop_of stop ≢ tool OutOfMemory → StopsAt places words (stop_of stop))
+
+-- the same of one of two stacks
+abbrev pub TellsLeftOnSide : Option Places → Side → List ℕ → Result (Vec ℕ Global) Stop → Type 0
+TellsLeftOnSide known side word (Ok lines) =
+    IfSome known (λ places. (read : List LayerBytes) × (layers_on_side side places word ≡ Ok read) × (lines.items ≡ said_of (Some side) word (Ok read)))
+TellsLeftOnSide known side word (Err stop) = IfSome known (λ places. stop_of stop ≢ tool OutOfMemory → layers_on_side side places word ≡ Err (stop_of stop))

@@ -1,12 +1,7 @@
 //! What is said beside an answer of the maps that were made for its layers.
 
-ghost use Rattle.std.specs.Prelude.{◌≡◌, ◌≢◌, false, List, [], None, Some, Ok, Err, IfErr, IfOk, IfSome};
-ghost use Rattle.resource_tool.specs.command_base.declared.fault.ToolFault.TheVariants.{OutOfMemory};
-ghost use Rattle.resource_tool.specs.command_base.Inputs.{layers_of, layers_on_side};
-ghost use Rattle.resource_tool.specs.command_base.LeftOut.{has_overlays};
-ghost use Rattle.resource_tool.specs.command_base.StackBytes.{LayerBytes};
-ghost use Rattle.resource_tool.specs.command_base.Stop.{stop_of, tool};
-ghost use Rattle.restool.specs.Left.{StopsAt, both_layers, left_lines, name_overlays, said_of, words_seen};
+ghost use Rattle.std.specs.Prelude.{◌≡◌};
+ghost use Rattle.restool.specs.Left.{TellsLeft, TellsLeftOnSide, both_layers, layers, name_overlays, words_seen};
 
 use command_base::{Inputs, LayerFiles, Side, Stop, has_overlays, left_of};
 use std::alloc::Global;
@@ -27,10 +22,7 @@ pub(crate) fn left_lines<'a, I: Inputs>(
     inputs: &I,
     words: LayerWords<'a>,
 ) -> Result<Vec<u8>, Stop<'a>>
-    ensures lines { IfSome (I.places inputs.now) (λ places. IfOk result (λ lines. lines.items ≡ left_lines places (words_seen words.entry))) }
-    ensures stops { IfSome (I.places inputs.now) (λ places. IfErr result (λ stop. stop_of stop ≢ tool OutOfMemory
-        → StopsAt places (words_seen words.entry) (stop_of stop))) }
-    ensures nothing { name_overlays (words_seen words.entry) ≡ false → IfOk result (λ lines. lines.items ≡ []) }
+    ensures { TellsLeft (I.places inputs.now) (words_seen words.entry) result }
 {
     match words {
         LayerWords::None => Ok(Vec::new(alloc)),
@@ -40,10 +32,7 @@ pub(crate) fn left_lines<'a, I: Inputs>(
 }
 
 fn lines_of<'a, I: Inputs>(alloc: Global, inputs: &I, word: &'a str) -> Result<Vec<u8>, Stop<'a>>
-    ensures lines { IfSome (I.places inputs.now) (λ places. IfOk result (λ lines. lines.items ≡ said_of None word.entry.now (layers_of places word.entry.now))) }
-    ensures stops { IfSome (I.places inputs.now) (λ places. IfErr result (λ stop. stop_of stop ≢ tool OutOfMemory
-        → layers_of places word.entry.now ≡ Err (stop_of stop))) }
-    ensures nothing { has_overlays word.entry.now ≡ false → IfOk result (λ lines. lines.items ≡ []) }
+    ensures { TellsLeft (I.places inputs.now) (layers word.entry.now) result }
 {
     if !has_overlays(word) {
         return Ok(Vec::new(alloc));
@@ -58,10 +47,7 @@ fn lines_of_both<'a, I: Inputs>(
     old: &'a str,
     new: &'a str,
 ) -> Result<Vec<u8>, Stop<'a>>
-    ensures lines { IfSome (I.places inputs.now) (λ places. IfOk result (λ lines. lines.items ≡ left_lines places (both_layers old.entry.now new.entry.now))) }
-    ensures stops { IfSome (I.places inputs.now) (λ places. IfErr result (λ stop. stop_of stop ≢ tool OutOfMemory
-        → StopsAt places (both_layers old.entry.now new.entry.now) (stop_of stop))) }
-    ensures nothing { name_overlays (both_layers old.entry.now new.entry.now) ≡ false → IfOk result (λ lines. lines.items ≡ []) }
+    ensures { TellsLeft (I.places inputs.now) (both_layers old.entry.now new.entry.now) result }
 {
     if !name_overlays(old, new) {
         return Ok(Vec::new(alloc));
@@ -84,10 +70,7 @@ fn lines_of_side<'a, I: Inputs>(
     side: Side,
     word: &'a str,
 ) -> Result<Vec<u8>, Stop<'a>>
-    ensures lines { IfSome (I.places inputs.now) (λ places. IfOk result (λ lines. (read : List LayerBytes)
-        × (layers_on_side side places word.entry.now ≡ Ok read) × (lines.items ≡ said_of (Some side) word.entry.now (Ok read)))) }
-    ensures stops { IfSome (I.places inputs.now) (λ places. IfErr result (λ stop. stop_of stop ≢ tool OutOfMemory
-        → layers_on_side side places word.entry.now ≡ Err (stop_of stop))) }
+    ensures { TellsLeftOnSide (I.places inputs.now) side word.entry.now result }
 {
     let files = LayerFiles::read_side(alloc, inputs, side, word)?;
     Ok(left_of(alloc, Some(side), word, &files)?)

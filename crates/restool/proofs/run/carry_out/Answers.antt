@@ -11,7 +11,7 @@ returns-in-Err g c =
     let unread = c.unanswered.ensures in
     carried-unread c.args.watch.is_terminal g.O.Write.contents g.E.Write.contents (writer_inner c.args.out) c.args.errors.now c.in-Err.stop
     (g.I.Inputs.places c.args.inputs.now) c.args.request.now (words_seen c.layer_words.result) c.unanswered.result.out c.unanswered.result.outcome
-    c.layer_words.ensures c.in-Err.ensures.stops unread.outcome unread.out
+    c.layer_words.ensures c.in-Err.ensures unread.outcome unread.out
 
 pub returns : goal.returns
 returns g c =
@@ -31,9 +31,9 @@ returns g c =
           same stop failed left request answer.ensures.shows,
       (
         lines-behind g.E.Write.contents known answer.new.errors told.new.errors told.result written.result.0 c.in-Ok.lines.items c.deref.result.now
-            (words_seen c.layer_words.result) (layer_words request) written.ensures.status c.in-Ok.ensures.lines c.layer_words.ensures c.deref.ensures.value told.ensures.lines,
+            (words_seen c.layer_words.result) (layer_words request) written.ensures.status c.in-Ok.ensures.0 c.layer_words.ensures c.deref.ensures.value told.ensures.lines,
         kept-behind answer.new.errors told.new.errors told.result written.result.0 written.ensures.stop written.ensures.write told.ensures.kept,
-        λ none. told.ensures.nothing (c.deref.ensures.value ∙ c.in-Ok.ensures.nothing (ap name_overlays c.layer_words.ensures ∙ none)),
+        λ none. told.ensures.nothing (c.deref.ensures.value ∙ c.in-Ok.ensures.1 (ap name_overlays c.layer_words.ensures ∙ none)),
       ),
       unwritten-behind c.args.watch.is_terminal g.O.Write.contents g.E.Write.contents c.args.out answer.new.out written.result.1 c.args.errors.now answer.new.errors answer.result written.result.0
           same stop failed left answer.ensures.unwritten,
