@@ -36,13 +36,10 @@ abbrev pub dots_for : List ℕ → List ℕ
 dots_for [] = []
 dots_for (byte ∷ bytes) = codes ".."
 
--- Graphviz reads no longer texts than 16,384 bytes. Of a label at most 2,000 bytes are shown, in whole characters, before some are
+-- A label stands between quotation marks. Graphviz reads no longer texts than 16,384 bytes: of a label at most 2,000 bytes are shown, in whole characters, before some are
 -- written by several.
 unfoldable pub cut_label : List ℕ → List ℕ
 cut_label text = let n = character_end text 2000 in flat_map escaped (take n text) ++ dots_for (drop n text)
-
-unfoldable pub quoted : List ℕ → List ℕ
-quoted text = 34 ∷ [] ++ cut_label text ++ 34 ∷ []
 
 unfoldable pub unreached_label : Form → List LayerOf → NodeOf → List ℕ
 unreached_label form stack node = codes "not reached: " ++ node_label form stack node
@@ -86,14 +83,14 @@ arrow_text (Missing path) = arrow_to path.last (line_name (Missing path))
 
 -- a line of a tree with this label, and the arrow to it
 unfoldable pub statements_with : List ℕ → LineOf → List ℕ
-statements_with label line = codes "  " ++ line_name line ++ codes " [label=" ++ quoted label ++ codes "];" ++ 10 ∷ [] ++ arrow_text line
+statements_with label line = codes "  " ++ line_name line ++ codes " [label=\"" ++ cut_label label ++ (codes "\"];" ++ 10 ∷ []) ++ arrow_text line
 
 abbrev pub statements_text : Form → List LayerOf → LineOf → List ℕ
 statements_text form stack line = statements_with (on_line (line_label form stack line)) line
 
 -- what stands before the lines of a tree; the picture's own label is its goal
 unfoldable pub head_with : List ℕ → List ℕ
-head_with label = (codes "digraph {" ++ 10 ∷ codes "  label=") ++ quoted label ++ (codes ";" ++ 10 ∷ codes "  node [shape=box];" ++ 10 ∷ [])
+head_with label = (codes "digraph {" ++ 10 ∷ codes "  label=\"") ++ cut_label label ++ (codes "\";" ++ 10 ∷ codes "  node [shape=box];" ++ 10 ∷ [])
 
 unfoldable pub dot_text : Form → List LayerOf → ℕ → GoalOf → List ℕ
 dot_text form stack number goal = head_with (on_line (goal_head stack number goal.goal)) ++ flat_map (statements_text form stack) (tree_lines goal.nodes) ++ codes "}" ++ 10 ∷ []

@@ -23,8 +23,8 @@ pub mod Differs
 pub mod TreeLines
 pub mod TreeLinesSeen
 pub mod WholeTree
-pub mod NumberedGoal
 pub mod TreeText
+pub mod LineParts
 pub mod DotText
 pub mod ShowOutput
 pub mod Show

@@ -45,7 +45,7 @@ notes_text layer notes = flat_map (λ finding. found_line layer finding (tally_o
 unfoldable pub shared_line : Option SharedNames → List ℕ
 shared_line None = []
 shared_line (Some shared) =
-    codes "warning " ++ named_number (codes "shared-names") shared.count ++ codes " first " ++ id_text shared.first.0 ++ 10 ∷ []
+    named_number (codes "warning shared-names") shared.count ++ codes " first " ++ id_text shared.first.0 ++ 10 ∷ []
 
 -- a number of a coordinate; that of a locale is its text
 unfoldable pub number_text : coord.Coord → ℕ → List ℕ
@@ -59,7 +59,7 @@ range_text c spread = codes " from " ++ number_text c spread.least ++ codes " to
 -- the line `qualifier NAME rows COUNT RANGE`; none where no row has it
 unfoldable pub qualifier_line : coord.Coord → Spread → List ℕ
 qualifier_line c spread =
-    if spread.count == 0 then [] else named_coord (codes "qualifier") c ++ codes " " ++ named_number (codes "rows") spread.count ++ range_text c spread ++ 10 ∷ []
+    if spread.count == 0 then [] else named_coord (codes "qualifier") c ++ named_number (codes " rows") spread.count ++ range_text c spread ++ 10 ∷ []
 
 -- the line `warning box lacks NAME`
 unfoldable pub lacks_line : coord.Coord → List ℕ

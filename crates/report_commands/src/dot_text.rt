@@ -5,18 +5,18 @@ ghost use Rattle.std.specs.Fmt.{decimal};
 ghost use Rattle.std.specs.List.{flat_map};
 ghost use Rattle.contract_words.specs.Writes.{Writes};
 ghost use Rattle.command_base.specs.answer_text.OnLine.{on_line};
-ghost use Rattle.command_base.specs.cert_tree.Certificate.{node_of, goal_of};
+ghost use Rattle.command_base.specs.cert_tree.Certificate.{goal_of};
 ghost use Rattle.command_base.specs.cert_tree.res_value.Goal.{goal_seen};
 ghost use Rattle.report_commands.specs.TreeLinesSeen.{line_of};
 ghost use Rattle.report_commands.specs.TreeText.{goal_head};
-ghost use Rattle.report_commands.specs.DotText.{escaped, is_inside, character_end, dots_for, cut_label, quoted, unreached_label, line_label, missing_name, line_name, arrow_to, arrow_text, statements_with, statements_text, head_with, dot_text};
+ghost use Rattle.report_commands.specs.DotText.{escaped, is_inside, character_end, dots_for, cut_label, line_label, missing_name, line_name, arrow_to, arrow_text, statements_with, statements_text, head_with, dot_text};
 
 use crate::goal_text::write_goal_head;
 use crate::node_text::write_node_label;
 use crate::path_end::LastAnswer;
 use crate::tree_lines::{TreeLine, tree_lines};
 use answer_text::{Form, StackNames, write_on_line};
-use command_base::{CertGoal, Goal, Node};
+use command_base::{CertGoal, Goal};
 use std::alloc::{AllocError, Global};
 use std::io::{self, Write};
 
@@ -91,9 +91,9 @@ fn goal_label(
 fn write_head<W: Write + Drop>(label: &[u8], out: &mut W) -> io::Result<()>
     ensures { Writes W.contents out.old out.new result (head_with label.now) }
 {
-    write!(out, "digraph {{\n  label=")?;
-    write_quoted(label, out)?;
-    write!(out, ";\n  node [shape=box];\n")
+    out.write_all(b"digraph {\n  label=\"")?;
+    write_cut_label(label, out)?;
+    out.write_all(b"\";\n  node [shape=box];\n")
 }
 
 // Pushes what is shown of each line.
@@ -147,7 +147,7 @@ fn label_of(
     }
 }
 
-#[tactic(auto, unfolding(crate::specs::DotText::line_label))]
+#[tactic(auto, unfolding(crate::specs::DotText::line_label, crate::specs::DotText::unreached_label))]
 fn write_line_label<W: Write + Drop>(
     form: Form,
     stack: &StackNames<'_, '_>,
@@ -158,23 +158,12 @@ fn write_line_label<W: Write + Drop>(
 {
     match line {
         TreeLine::NodeAt { node, .. } => write_node_label(form, stack, node, out),
-        TreeLine::Unreached { node, .. } => write_unreached_label(form, stack, node, out),
+        TreeLine::Unreached { node, .. } => {
+            out.write_all(b"not reached: ")?;
+            write_node_label(form, stack, node, out)
+        }
         TreeLine::Missing { .. } => out.write_all(b"ends early"),
     }
-}
-
-#[tactic(auto, unfolding(crate::specs::DotText::unreached_label))]
-fn write_unreached_label<W: Write + Drop>(
-    form: Form,
-    stack: &StackNames<'_, '_>,
-    node: &Node,
-    out: &mut W,
-) -> io::Result<()>
-    ensures { Writes W.contents out.old out.new result (unreached_label form stack.now (node_of node.now)) }
-{
-    out.write_all(b"not reached: ")?;
-    write_node_label(form, stack, node, out)?;
-    Ok(())
 }
 
 #[tactic(auto, unfolding(crate::specs::DotText::statements_with))]
@@ -187,19 +176,10 @@ fn write_statements<W: Write + Drop>(
 {
     out.write_all(b"  ")?;
     write_name(line, out)?;
-    out.write_all(b" [label=")?;
-    write_quoted(label, out)?;
-    out.write_all(b"];\n")?;
+    out.write_all(b" [label=\"")?;
+    write_cut_label(label, out)?;
+    out.write_all(b"\"];\n")?;
     write_arrow(line, out)
-}
-
-#[tactic(auto, unfolding(crate::specs::DotText::quoted))]
-fn write_quoted<W: Write + Drop>(text: &[u8], out: &mut W) -> io::Result<()>
-    ensures { Writes W.contents out.old out.new result (quoted text.now) }
-{
-    out.write_all(b"\"")?;
-    write_cut_label(text, out)?;
-    out.write_all(b"\"")
 }
 
 #[tactic(auto, unfolding(crate::specs::DotText::cut_label))]

@@ -3,7 +3,7 @@
 ghost use Rattle.std.specs.List.{flat_map};
 ghost use Rattle.contract_words.specs.Writes.{Writes};
 ghost use Rattle.command_base.specs.cert_tree.res_value.Goal.{goal_seen};
-ghost use Rattle.report_commands.specs.TreeText.{style_text, asked_text, goal_head, goal_line};
+ghost use Rattle.report_commands.specs.TreeText.{style_text, goal_head, goal_line};
 
 use answer_text::{StackNames, write_id, write_its_name};
 use command_base::{Goal, ResId};
@@ -25,7 +25,7 @@ pub(crate) fn write_goal_line<W: Write + Drop>(
 }
 
 /// Writes the number of a goal and what it asks.
-#[tactic(auto, unfolding(crate::specs::TreeText::goal_head))]
+#[tactic(auto, unfolding(crate::specs::TreeText::goal_head, crate::specs::TreeText::asked_text))]
 pub(crate) fn write_goal_head<W: Write + Drop>(
     stack: &StackNames<'_, '_>,
     number: usize,
@@ -35,17 +35,6 @@ pub(crate) fn write_goal_head<W: Write + Drop>(
     ensures { Writes W.contents out.old out.new result (goal_head stack.now number (goal_seen goal.now)) }
 {
     write!(out, "goal {number} ")?;
-    write_asked(stack, goal, out)
-}
-
-#[tactic(auto, unfolding(crate::specs::TreeText::asked_text))]
-fn write_asked<W: Write + Drop>(
-    stack: &StackNames<'_, '_>,
-    goal: &Goal,
-    out: &mut W,
-) -> io::Result<()>
-    ensures { Writes W.contents out.old out.new result (asked_text stack.now (goal_seen goal.now)) }
-{
     match goal {
         Goal::Id(id) => {
             write_id(*id, out)?;

@@ -4,9 +4,7 @@ ghost use Rattle.std.specs.Prelude.{◌≡◌, map, IfOk};
 ghost use Rattle.contract_words.specs.Writes.{Writes};
 ghost use Rattle.command_base.specs.cert_tree.box_answers.NumberSet.{locale_numbers};
 ghost use Rattle.command_base.specs.StackBytesSeen.{layer_bytes};
-ghost use Rattle.report_commands.specs.Findings.{noted};
-ghost use Rattle.report_commands.specs.Counted.{Counts};
-ghost use Rattle.report_commands.specs.LayerNotes.{notes_of_rows, notes_of_layer, layer_differs};
+ghost use Rattle.report_commands.specs.LayerNotes.{layer_differs};
 ghost use Rattle.report_commands.specs.SurveyOutput.{layers_differ};
 ghost use Rattle.report_commands.specs.LayersText.{layer_lines, layers_text};
 
@@ -45,43 +43,13 @@ fn write_layer<W: Write + Drop>(
     layer: LayerParts<&[u8]>,
     out: &mut W,
 ) -> io::Result<bool>
-    ensures text { Writes W.contents out.old out.new result (layer_lines rule stack.now (locale_numbers locales.now) (place, layer_bytes layer.entry)) }
-    ensures differs { IfOk result (λ differs. differs ≡ layer_differs rule stack.now (locale_numbers locales.now) (place, layer_bytes layer.entry)) }
-{
-    let findings = layer_findings(stack, rule, locales, place, layer);
-    write_findings(place, &findings, out)?;
-    Ok(findings.differs())
-}
-
-// What the layer at a place has.
-fn layer_findings(
-    stack: &Stack<'_>,
-    rule: LocaleRule,
-    locales: &[Locale],
-    place: usize,
-    layer: LayerParts<&[u8]>,
-) -> Findings
-    ensures notes { Counts result (notes_of_layer rule stack.now (locale_numbers locales.now) (place, layer_bytes layer.entry)) }
-    ensures differs { result.differs ≡ layer_differs rule stack.now (locale_numbers locales.now) (place, layer_bytes layer.entry) }
+    ensures { Writes W.contents out.old out.new result (layer_lines rule stack.now (locale_numbers locales.now) (place, layer_bytes layer.entry))
+        × IfOk result (λ differs. differs ≡ layer_differs rule stack.now (locale_numbers locales.now) (place, layer_bytes layer.entry)) }
 {
     let (bytes, _) = layer;
     let mut findings = Findings::none();
     findings.add_chunks(bytes);
-    note_rows_at(stack, rule, locales, place, &mut findings);
-    findings
-}
-
-#[tactic(auto, unfolding(crate::specs::LayerNotes::rows_at, crate::specs::LayerNotes::strings_at), using(crate::proofs::FindingsSteps::noted_steps))]
-fn note_rows_at(
-    stack: &Stack<'_>,
-    rule: LocaleRule,
-    locales: &[Locale],
-    place: usize,
-    findings: &mut Findings,
-)
-    ensures { findings.new ≡ noted findings.old (notes_of_rows rule stack.now (locale_numbers locales.now) place) }
-{
-    if let Some(table) = stack.layer_table(place) {
-        note_rows(rule, locales, table, findings);
-    }
+    note_rows(stack, rule, locales, place, &mut findings);
+    write_findings(place, &findings, out)?;
+    Ok(findings.differs())
 }

@@ -45,8 +45,6 @@ mod layout;
 mod line_text;
 mod locale_differences;
 mod node_text;
-mod numbered_goal;
-mod numbered_goals;
 mod open_paths;
 mod opened;
 mod path_end;

@@ -3,15 +3,14 @@
 ghost use Rattle.std.specs.List.{flat_map};
 ghost use Rattle.std.specs.Prelude.{map};
 ghost use Rattle.contract_words.specs.Writes.{Writes};
-ghost use Rattle.command_base.specs.cert_tree.Certificate.{node_of};
 ghost use Rattle.report_commands.specs.TreeLinesSeen.{line_of};
-ghost use Rattle.report_commands.specs.TreeText.{else_text, behind_text, path_text, node_line, unreached_line, missing_line, line_text};
+ghost use Rattle.report_commands.specs.LineParts.{front_text, shown_text};
+ghost use Rattle.report_commands.specs.TreeText.{else_text, behind_text, path_text, line_text};
 
-use crate::node_text::write_node;
+use crate::node_text::{write_if, write_node_label};
 use crate::path_end::{LastAnswer, MOST_DEPTH, PathEnd};
 use crate::tree_lines::TreeLine;
 use answer_text::{Form, StackNames};
-use command_base::Node;
 use std::io::{self, Write};
 
 /// Two spaces for each answer yes.
@@ -33,7 +32,6 @@ pub(crate) fn write_lines<W: Write + Drop>(
     Ok(())
 }
 
-#[tactic(auto, unfolding(crate::specs::TreeText::line_text))]
 fn write_line<W: Write + Drop>(
     form: Form,
     stack: &StackNames<'_, '_>,
@@ -42,54 +40,49 @@ fn write_line<W: Write + Drop>(
 ) -> io::Result<()>
     ensures { Writes W.contents out.old out.new result (line_text form stack.now (line_of line.now)) }
 {
+    write_front(line, out)?;
+    write_shown(form, stack, line, out)?;
+    out.write_all(b"\n")
+}
+
+// Writes what stands before the node of a line.
+#[tactic(auto, unfolding(crate::specs::LineParts::front_text))]
+fn write_front<W: Write + Drop>(line: &TreeLine<'_>, out: &mut W) -> io::Result<()>
+    ensures { Writes W.contents out.old out.new result (front_text (line_of line.now)) }
+{
     match line {
         TreeLine::NodeAt { number, path, node } => {
-            write_node_line(form, stack, *number, *path, node, out)
+            write!(out, "{number}\t")?;
+            write_path(*path, out)?;
+            write_if(node, out)
         }
-        TreeLine::Unreached { number, node } => write_unreached(form, stack, *number, node, out),
-        TreeLine::Missing { path } => write_missing(*path, out),
+        TreeLine::Unreached { number, node } => {
+            write!(out, "{number}\tnot reached: ")?;
+            write_if(node, out)
+        }
+        TreeLine::Missing { path } => {
+            out.write_all(b"\t")?;
+            write_path(*path, out)
+        }
     }
 }
 
-#[tactic(auto, unfolding(crate::specs::TreeText::node_line))]
-fn write_node_line<W: Write + Drop>(
+// Writes the node of a line, or that there is none.
+#[tactic(auto, unfolding(crate::specs::LineParts::shown_text))]
+fn write_shown<W: Write + Drop>(
     form: Form,
     stack: &StackNames<'_, '_>,
-    number: usize,
-    path: PathEnd,
-    node: &Node,
+    line: &TreeLine<'_>,
     out: &mut W,
 ) -> io::Result<()>
-    ensures { Writes W.contents out.old out.new result (node_line form stack.now number path (node_of node.now)) }
+    ensures { Writes W.contents out.old out.new result (shown_text form stack.now (line_of line.now)) }
 {
-    write!(out, "{number}\t")?;
-    write_path(path, out)?;
-    write_node(form, stack, node, out)?;
-    out.write_all(b"\n")
-}
-
-#[tactic(auto, unfolding(crate::specs::TreeText::unreached_line))]
-fn write_unreached<W: Write + Drop>(
-    form: Form,
-    stack: &StackNames<'_, '_>,
-    number: usize,
-    node: &Node,
-    out: &mut W,
-) -> io::Result<()>
-    ensures { Writes W.contents out.old out.new result (unreached_line form stack.now number (node_of node.now)) }
-{
-    write!(out, "{number}\tnot reached: ")?;
-    write_node(form, stack, node, out)?;
-    out.write_all(b"\n")
-}
-
-#[tactic(auto, unfolding(crate::specs::TreeText::missing_line))]
-fn write_missing<W: Write + Drop>(path: PathEnd, out: &mut W) -> io::Result<()>
-    ensures { Writes W.contents out.old out.new result (missing_line path) }
-{
-    out.write_all(b"\t")?;
-    write_path(path, out)?;
-    out.write_all(b"ends early\n")
+    match line {
+        TreeLine::NodeAt { node, .. } | TreeLine::Unreached { node, .. } => {
+            write_node_label(form, stack, node, out)
+        }
+        TreeLine::Missing { .. } => out.write_all(b"ends early"),
+    }
 }
 
 // How a line begins at the end of a path.

@@ -5,9 +5,8 @@ ghost use Rattle.std.specs.Option.{option_map};
 ghost use Rattle.contract_words.specs.Writes.{Writes};
 ghost use Rattle.command_base.specs.answer_text.string_pool.Pool.{pool_of};
 ghost use Rattle.command_base.specs.answer_text.LayerText.{layer_text};
-ghost use Rattle.command_base.specs.names.IdWord.{word_of_id};
 ghost use Rattle.command_base.specs.cert_tree.Certificate.{node_of};
-ghost use Rattle.report_commands.specs.TreeText.{no_layer, named_by, string_or_index, leaf_text, value_text, bag_text, node_label, if_text, node_text};
+ghost use Rattle.report_commands.specs.TreeText.{no_layer, named_by, string_or_index, leaf_text, value_text, bag_text, node_label, if_text};
 
 use crate::test_text::write_test_in;
 use answer_text::{
@@ -19,22 +18,9 @@ use notation::write_xml_value;
 use res_value::kind;
 use std::io::{self, Write};
 
-/// Writes a node for a line of a tree.
-#[tactic(auto, unfolding(crate::specs::TreeText::node_text))]
-pub(crate) fn write_node<W: Write + Drop>(
-    form: Form,
-    stack: &StackNames<'_, '_>,
-    node: &Node,
-    out: &mut W,
-) -> io::Result<()>
-    ensures { Writes W.contents out.old out.new result (node_text form stack.now (node_of node.now)) }
-{
-    write_if(node, out)?;
-    write_node_label(form, stack, node, out)
-}
-
+/// Writes what stands before a node in a line.
 #[tactic(auto, unfolding(crate::specs::TreeText::if_text))]
-fn write_if<W: Write + Drop>(node: &Node, out: &mut W) -> io::Result<()>
+pub(crate) fn write_if<W: Write + Drop>(node: &Node, out: &mut W) -> io::Result<()>
     ensures { Writes W.contents out.old out.new result (if_text (node_of node.now)) }
 {
     match node {
@@ -107,10 +93,11 @@ fn write_leaf_value<W: Write + Drop>(
 ) -> io::Result<()>
     ensures { Writes W.contents out.old out.new result (leaf_text stack.now (option_map pool_of strings.entry) value) }
 {
+    let word = stack.word(ResId(value.word));
     match value.kind {
         kind::STRING => write_string_or_index(strings, value, out),
-        kind::REFERENCE => write_named_by(b"@", stack, value, out),
-        kind::ATTRIBUTE => write_named_by(b"?", stack, value, out),
+        kind::REFERENCE => write_named_by(b"@", word, value, out),
+        kind::ATTRIBUTE => write_named_by(b"?", word, value, out),
         _ => write_xml_value(value, out),
     }
 }
@@ -130,13 +117,13 @@ fn write_string_or_index<W: Write + Drop>(
 
 fn write_named_by<W: Write + Drop>(
     sign: &[u8],
-    stack: &StackNames<'_, '_>,
+    word: Option<&[u8]>,
     value: Value,
     out: &mut W,
 ) -> io::Result<()>
-    ensures { Writes W.contents out.old out.new result (named_by sign.now value (word_of_id stack.now value.word)) }
+    ensures { Writes W.contents out.old out.new result (named_by sign.now value (option_map (λ word. word.now) word.entry)) }
 {
-    let Some(word) = stack.word(ResId(value.word)) else {
+    let Some(word) = word else {
         return write_xml_value(value, out);
     };
     out.write_all(sign)?;

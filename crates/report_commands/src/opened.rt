@@ -43,9 +43,9 @@ impl<'a> Opened<'a> {
         box_json: Option<&[u8]>,
         rule: LocaleRule,
     ) -> Result<Opened<'a>, ToolFault>
-        ensures value { GivesOr OutOfMemory opened_of result (survey_inputs_by rule (map layer_bytes layers.now) (option_map (λ json. json.now) box_json.entry)) }
-        ensures of_input { IsOfInput result }
-        ensures shared { IfOk result (λ opened. opened.shared ≡ shared_of (shared_ids opened.stack)) }
+        ensures { GivesOr OutOfMemory opened_of result (survey_inputs_by rule (map layer_bytes layers.now) (option_map (λ json. json.now) box_json.entry))
+            × IsOfInput result
+            × IfOk result (λ opened. opened.shared ≡ shared_of (shared_ids opened.stack)) }
     {
         let stack = open_stack(alloc, layers)?;
         let members = read_box(alloc, box_json, rule)?;
@@ -95,8 +95,7 @@ fn read_box(
     box_json: Option<&[u8]>,
     rule: LocaleRule,
 ) -> Result<Option<ConfigBox>, ToolFault>
-    ensures value { GivesOr OutOfMemory (λ members. members) result (sets_in rule (option_map (λ json. json.now) box_json.entry)) }
-    ensures of_input { IsOfInput result }
+    ensures { GivesOr OutOfMemory (λ members. members) result (sets_in rule (option_map (λ json. json.now) box_json.entry)) × IsOfInput result }
 {
     let Some(json) = box_json else {
         return Ok(None);

@@ -7,7 +7,7 @@ ghost use Rattle.command_base.specs.overlay_map.type_chunks.Row.{row_of};
 ghost use Rattle.command_base.specs.overlay_map.resource_table.Table.{rows_of};
 ghost use Rattle.report_commands.specs.LayerNotes.{rows_at};
 ghost use Rattle.report_commands.specs.Qualifiers.{rows_in_stack, numbers_at, spread_of};
-ghost use Rattle.report_commands.specs.Counting.{and_number, spread_in, no_qualifiers, with_number, counted, said_at, said_by, said_by_layer};
+ghost use Rattle.report_commands.specs.Counting.{and_number, spread_in, with_number, counted, said_at, said_by};
 
 use crate::said_numbers::number_said;
 use command_base::{Coord, Row, Stack, Table};
@@ -64,19 +64,6 @@ impl Qualifiers {
     pub fn of_stack(stack: &Stack<'_>) -> Qualifiers
         ensures { (c : coord.Coord) → spread_in result c ≡ spread_of (numbers_at c (rows_in_stack stack.now)) }
     {
-        Qualifiers::counted(stack)
-    }
-
-    /// The numbers of a coordinate.
-    pub fn spread(&self, coord: Coord) -> Spread
-        ensures { result ≡ spread_in self.now coord }
-    {
-        self.spreads[coord.place()]
-    }
-
-    fn counted(stack: &Stack<'_>) -> Qualifiers
-        ensures { result ≡ counted no_qualifiers (flat_map said_by_layer stack.now) }
-    {
         let mut qualifiers = Qualifiers {
             spreads: [Spread::NONE; COORD_COUNT],
         };
@@ -84,6 +71,13 @@ impl Qualifiers {
             qualifiers.add_layer(stack, place);
         }
         qualifiers
+    }
+
+    /// The numbers of a coordinate.
+    pub fn spread(&self, coord: Coord) -> Spread
+        ensures { result ≡ spread_in self.now coord }
+    {
+        self.spreads[coord.place()]
     }
 
     #[tactic(auto, unfolding(crate::specs::LayerNotes::rows_at), using(crate::proofs::QualifierSteps::counted_steps))]
@@ -115,15 +109,8 @@ impl Qualifiers {
         ensures { self.new ≡ counted self.old (flat_map (said_at (row_of row.now)) coords.now) }
     {
         for coord in coords {
-            self.add_coord(row, *coord);
+            self.add_number(*coord, number_said(row, *coord));
         }
-    }
-
-    #[tactic(auto, using(crate::proofs::QualifierSteps::counted_steps))]
-    fn add_coord(&mut self, row: &Row<'_>, coord: Coord)
-        ensures { self.new ≡ counted self.old (said_at (row_of row.now) coord) }
-    {
-        self.add_number(coord, number_said(row, coord));
     }
 
     #[tactic(auto, unfolding(crate::specs::Counting::with_number))]

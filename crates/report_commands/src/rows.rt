@@ -1,14 +1,14 @@
 //! What rows have that a device may read otherwise.
 
 ghost use Rattle.std.specs.Prelude.{◌≡◌, ◌==◌, ◌||◌};
-ghost use Rattle.std.specs.List.{flat_map, list_any};
+ghost use Rattle.std.specs.List.{list_any};
 ghost use Rattle.command_base.specs.cert_tree.box_answers.NumberSet.{locale_numbers};
 ghost use Rattle.command_base.specs.overlay_map.res_value.Cell.{cell_of};
 ghost use Rattle.command_base.specs.overlay_map.res_value.MapRows.{map_rows_of};
 ghost use Rattle.command_base.specs.overlay_map.string_pool.Pool.{pool_of};
 ghost use Rattle.command_base.specs.overlay_map.type_chunks.Row.{row_of};
-ghost use Rattle.command_base.specs.overlay_map.resource_table.Table.{rows_of};
 ghost use Rattle.report_commands.specs.Findings.{noted};
+ghost use Rattle.report_commands.specs.LayerNotes.{notes_of_rows};
 ghost use Rattle.report_commands.specs.Locales.{differs_at};
 ghost use Rattle.report_commands.specs.RowNotes.{dynamic_attribute, dynamic_reference, has_broken, has_kind, is_bag_row_of_kind, is_broken, is_broken_bag_row, is_for_other_locales, is_for_one_of, notes_of_values, notes_of_locale, notes_of_row};
 
@@ -17,7 +17,7 @@ use crate::findings::Findings;
 use crate::locale_differences::{differs_at, differs_somewhere};
 use crate::said_numbers::number_said;
 use crate::site::Site;
-use command_base::{Cell, Coord, Locale, LocaleRule, MapRows, Pool, Row, Table, Value, kind};
+use command_base::{Cell, Coord, Locale, LocaleRule, MapRows, Pool, Row, Stack, Value, kind};
 
 /// A value that is an attribute of a shared library (AOSP: `Res_value::TYPE_DYNAMIC_ATTRIBUTE`).
 const DYNAMIC_ATTRIBUTE: u8 = 0x08;
@@ -164,16 +164,20 @@ fn note_row(
     note_locale(rule, locales, row, findings);
 }
 
-/// Adds what the rows of a table have, where locales are compared by a rule, and these are those of the box.
-#[tactic(auto, using(crate::proofs::FindingsSteps::noted_steps))]
+/// Adds what the rows of the layer at a place have, where locales are compared by a rule, and these are those of the box.
+#[tactic(auto, unfolding(crate::specs::LayerNotes::rows_at, crate::specs::LayerNotes::strings_at), using(crate::proofs::FindingsSteps::noted_steps))]
 pub(crate) fn note_rows(
+    stack: &Stack<'_>,
     rule: LocaleRule,
     locales: &[Locale],
-    table: &Table<'_>,
+    place: usize,
     findings: &mut Findings,
 )
-    ensures { findings.new ≡ noted findings.old (flat_map (notes_of_row rule (locale_numbers locales.now) table.now.strings) (rows_of table.now)) }
+    ensures { findings.new ≡ noted findings.old (notes_of_rows rule stack.now (locale_numbers locales.now) place) }
 {
+    let Some(table) = stack.layer_table(place) else {
+        return;
+    };
     let strings = table.strings();
     for row in table.all_rows() {
         note_row(rule, locales, &strings, &row, findings);

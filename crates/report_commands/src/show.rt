@@ -1,16 +1,17 @@
 //! The command `show`.
 
-ghost use Rattle.std.specs.Prelude.{◌≡◌, ◌++◌, map, Ok, IfOk, IfSome};
-ghost use Rattle.std.specs.List.{flat_map};
+ghost use Rattle.std.specs.Prelude.{◌≡◌, ◌++◌, map, Ok, IfOk, IfSome, OnOk};
 ghost use Rattle.contract_words.specs.Exact.{GivesOr};
 ghost use Rattle.contract_words.specs.Writes.{Writes};
 ghost use Rattle.command_base.specs.declared.fault.ToolFault.TheVariants.{OutOfMemory, Write};
+ghost use Rattle.command_base.specs.declared.status.Status.TheVariants.{Negative};
 ghost use Rattle.command_base.specs.Output.{Prints, IsOfInput};
 ghost use Rattle.command_base.specs.StackBytesSeen.{layer_bytes};
 ghost use Rattle.command_base.specs.Stop.{GivesOrStops};
-ghost use Rattle.report_commands.specs.NumberedGoal.{numbered_of};
 ghost use Rattle.report_commands.specs.OpenedSeen.{opened_trees};
-ghost use Rattle.command_base.specs.cert_tree.Certificate.{goal_of};
+ghost use Rattle.command_base.specs.cert_tree.Certificate.{goal_of, node_of};
+ghost use Rattle.report_commands.specs.TreeLines.{tree_lines};
+ghost use Rattle.report_commands.specs.TreeLinesSeen.{line_of};
 ghost use Rattle.report_commands.specs.TreeText.{certificate_text, goal_text, goals_line};
 ghost use Rattle.report_commands.specs.DotText.{no_goal_line};
 ghost use Rattle.report_commands.specs.Show.{ShowsFiles, ShowsTrees, show_files, show_held, shown_output};
@@ -20,12 +21,11 @@ ghost use Rattle.command_base.specs.CarriesOut.{IsKept};
 use crate::dot_text::dot_text;
 use crate::goal_text::write_goal_line;
 use crate::line_text::write_lines;
-use crate::numbered_goal::NumberedGoal;
-use crate::numbered_goals::numbered_goals;
+use crate::tree_lines::{TreeLine, tree_lines};
 use answer_text::{Form, StackNames, write_on_line};
 use command_base::{
     Cert, CertGoal, Inputs, LayerFiles, LayerParts, LocaleRule, Stack, Status, Stop, ToolFault,
-    file_bytes, open_stack,
+    file_bytes, open_stack, status_or_stop,
 };
 use std::alloc::{AllocError, Global};
 use std::io::{self, Write};
@@ -64,11 +64,11 @@ impl<'a> Show<'a> {
         files: &ShowFiles,
         out: &mut W,
     ) -> Result<Status, Stop<'static>>
-        ensures answers { ShowsFiles W.contents out.old out.new self.now.form self.now.pictured (Ok (show_held files.now)) result }
-        ensures unwritten { IsKept out.old out.new result }
+        ensures { ShowsFiles W.contents out.old out.new self.now.form self.now.pictured (Ok (show_held files.now)) result
+            × IsKept out.old out.new result }
     {
         let layers = files.layers.layers(alloc)?;
-        Ok(self.print(alloc, &layers, &files.certificate, out)?)
+        status_or_stop(self.print(alloc, &layers, &files.certificate, out))
     }
 
     // Prints all trees, or the one that is pictured.
@@ -206,19 +206,17 @@ impl<'a> OpenedTrees<'a> {
                 out.write_all(&text)?;
                 Ok(Status::Done)
             }
-            None => {
-                write_no_goal(goal, out)?;
-                Ok(Status::Negative)
-            }
+            None => print_no_goal(goal, out),
         }
     }
 }
 
 #[tactic(auto, unfolding(crate::specs::DotText::no_goal_line))]
-fn write_no_goal<W: Write + Drop>(goal: usize, out: &mut W) -> io::Result<()>
-    ensures { Writes W.contents out.old out.new result (no_goal_line goal) }
+fn print_no_goal<W: Write + Drop>(goal: usize, out: &mut W) -> Result<Status, ToolFault>
+    ensures { Prints W.contents out.old out.new result (Ok (record { status = Negative; text = no_goal_line goal })) }
 {
-    writeln!(out, "no goal {goal}")
+    writeln!(out, "no goal {goal}")?;
+    Ok(Status::Negative)
 }
 
 // The goals with their trees, in memory: all of it is taken before the first line is written.
@@ -231,54 +229,57 @@ fn certificate_text(
 ) -> Result<Vec<u8>, AllocError>
     ensures { IfOk result (λ text. text.items ≡ certificate_text form stack.now (map goal_of goals.now)) }
 {
-    let numbered = numbered_goals(alloc, goals)?;
     let mut text = Vec::new(alloc);
-    match write_certificate(form, stack, &numbered, goals.len(), &mut text) {
-        Ok(()) => Ok(text),
+    for (number, goal) in goals.iter().enumerate() {
+        push_goal(alloc, form, stack, number, goal, &mut text)?;
+    }
+    push_count(goals.len(), &mut text)?;
+    Ok(text)
+}
+
+fn push_goal(
+    alloc: Global,
+    form: Form,
+    stack: &StackNames<'_, '_>,
+    number: usize,
+    goal: &CertGoal,
+    text: &mut Vec<u8>,
+) -> Result<(), AllocError>
+    ensures { OnOk result (text.new.items ≡ text.old.items ++ goal_text form stack.now (number, goal_of goal.now)) }
+{
+    let lines = tree_lines(alloc, goal.nodes.as_slice())?;
+    match write_goal(form, stack, number, goal, &lines, text) {
+        Ok(()) => Ok(()),
         // To a `Vec` only a want of memory is a fault.
         Err(_) => Err(AllocError),
     }
 }
 
-#[tactic(auto, unfolding(crate::specs::TreeText::goals_line))]
-fn write_certificate<W: Write + Drop>(
-    form: Form,
-    stack: &StackNames<'_, '_>,
-    goals: &[NumberedGoal<'_>],
-    count: usize,
-    out: &mut W,
-) -> io::Result<()>
-    ensures { Writes W.contents out.old out.new result (flat_map (goal_text form stack.now) (map numbered_of goals.now) ++ goals_line count) }
-{
-    write_goals(form, stack, goals, out)?;
-    writeln!(out, "goals {count}")
-}
-
-#[tactic(auto, using(contract_words::proofs::TextSteps::puts_slice))]
-fn write_goals<W: Write + Drop>(
-    form: Form,
-    stack: &StackNames<'_, '_>,
-    goals: &[NumberedGoal<'_>],
-    out: &mut W,
-) -> io::Result<()>
-    ensures { Writes W.contents out.old out.new result (flat_map (goal_text form stack.now) (map numbered_of goals.now)) }
-{
-    for goal in goals {
-        write_goal(form, stack, goal, out)?;
-    }
-    Ok(())
-}
-
+// Writes a goal, the lines of whose tree are these.
 #[tactic(auto, unfolding(crate::specs::TreeText::goal_text))]
 fn write_goal<W: Write + Drop>(
     form: Form,
     stack: &StackNames<'_, '_>,
-    goal: &NumberedGoal<'_>,
+    number: usize,
+    goal: &CertGoal,
+    lines: &[TreeLine<'_>],
     out: &mut W,
 ) -> io::Result<()>
-    ensures { Writes W.contents out.old out.new result (goal_text form stack.now (numbered_of goal.now)) }
+    requires { map line_of lines.now ≡ tree_lines (map node_of goal.now.nodes.items) }
+    ensures { Writes W.contents out.old out.new result (goal_text form stack.now (number, goal_of goal.now)) }
 {
-    let asked = goal.goal;
-    write_goal_line(stack, goal.number, &asked.goal, asked.nodes.len(), out)?;
-    write_lines(form, stack, goal.lines.as_slice(), out)
+    write_goal_line(stack, number, &goal.goal, goal.nodes.len(), out)?;
+    write_lines(form, stack, lines, out)
+}
+
+// Pushes the line that says how many goals there are.
+#[tactic(auto, unfolding(crate::specs::TreeText::goals_line))]
+fn push_count(count: usize, text: &mut Vec<u8>) -> Result<(), AllocError>
+    ensures { OnOk result (text.new.items ≡ text.old.items ++ goals_line count) }
+{
+    match writeln!(text, "goals {count}") {
+        Ok(()) => Ok(()),
+        // To a `Vec` only a want of memory is a fault.
+        Err(_) => Err(AllocError),
+    }
 }

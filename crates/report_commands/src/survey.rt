@@ -19,7 +19,7 @@ ghost use Rattle.report_commands.specs.BoxGaps.{lacks};
 ghost use Rattle.report_commands.specs.OpenedSeen.{opened_of};
 ghost use Rattle.report_commands.specs.Survey.{Surveys, SurveysFiles, survey_files, survey_held};
 ghost use Rattle.report_commands.specs.SurveyText.{qualifier_line, lacking_line};
-ghost use Rattle.report_commands.specs.SurveyOutput.{qualifiers_text, lacking_text, lacks_some, survey_answer, survey_output_by};
+ghost use Rattle.report_commands.specs.SurveyOutput.{lacking_text, lacks_some, survey_answer, survey_output_by};
 ghost use Rattle.command_base.specs.CarriesOut.{IsKept};
 
 use crate::layers::write_layers;
@@ -28,7 +28,8 @@ use crate::qualifiers::Qualifiers;
 use crate::refused::survey_refused;
 use crate::text::{write_lacks, write_qualifier, write_shared};
 use command_base::{
-    Coord, Inputs, LayerFiles, LayerParts, LocaleRule, Stack, Status, Stop, ToolFault, file_bytes,
+    Coord, Inputs, LayerFiles, LayerParts, LocaleRule, Status, Stop, ToolFault, file_bytes,
+    status_or_stop,
 };
 use std::alloc::Global;
 use std::io::{self, Write};
@@ -65,12 +66,12 @@ impl<'a> Survey<'a> {
         files: &SurveyFiles,
         out: &mut W,
     ) -> Result<Status, Stop<'static>>
-        ensures answers { SurveysFiles W.contents out.old out.new self.now.locales (Ok (survey_held files.now)) result }
-        ensures unwritten { IsKept out.old out.new result }
+        ensures { SurveysFiles W.contents out.old out.new self.now.locales (Ok (survey_held files.now)) result
+            × IsKept out.old out.new result }
     {
         let layers = files.layers.layers(alloc)?;
         let box_json = files.box_json.as_deref();
-        Ok(survey_by(alloc, &layers, box_json, self.locales, out)?)
+        status_or_stop(survey_by(alloc, &layers, box_json, self.locales, out))
     }
 }
 
@@ -143,25 +144,16 @@ fn write_answer<W: Write + Drop>(
     out: &mut W,
 ) -> io::Result<Status>
     requires { opened.now.shared ≡ shared_of (shared_ids opened.now.stack) }
-    ensures text { Writes W.contents out.old out.new result (survey_answer (map layer_bytes layers.now) (opened_of opened.now)).text }
-    ensures status { IfOk result (λ status. status ≡ (survey_answer (map layer_bytes layers.now) (opened_of opened.now)).status) }
+    ensures { Writes W.contents out.old out.new result (survey_answer (map layer_bytes layers.now) (opened_of opened.now)).text
+        × IfOk result (λ status. status ≡ (survey_answer (map layer_bytes layers.now) (opened_of opened.now)).status) }
 {
     let differs = write_layers(&opened.stack, opened.rule, opened.locales(), layers, out)?;
     write_shared(opened.shared, out)?;
-    let qualifiers = write_qualifiers(&opened.stack, out)?;
+    let qualifiers = Qualifiers::of_stack(&opened.stack);
+    write_lines(&qualifiers, out)?;
     let lacks = write_all_lacking(opened, &qualifiers, out)?;
     let shares = opened.shared.is_some();
     Ok(Status::negative_if(differs || shares || lacks))
-}
-
-// Writes the qualifiers of all rows, and hands them on.
-fn write_qualifiers<W: Write + Drop>(stack: &Stack<'_>, out: &mut W) -> io::Result<Qualifiers>
-    ensures text { Writes W.contents out.old out.new result (qualifiers_text stack.now) }
-    ensures spreads { IfOk result (λ qualifiers. (c : coord.Coord) → spread_in qualifiers c ≡ spread_of (numbers_at c (rows_in_stack stack.now))) }
-{
-    let qualifiers = Qualifiers::of_stack(stack);
-    write_lines(&qualifiers, out)?;
-    Ok(qualifiers)
 }
 
 #[tactic(auto, unfolding(crate::specs::Unfolded::all_coords))]
@@ -213,26 +205,21 @@ fn write_each_lacking<W: Write + Drop>(
 {
     let mut some = false;
     for coord in coords {
-        some |= write_lacking_at(opened, qualifiers, *coord, out)?;
+        let lacking = opened.lacks(*coord, qualifiers.spread(*coord));
+        write_lacking(lacking, *coord, out)?;
+        some |= lacking;
     }
     Ok(some)
 }
 
+// Writes the line of a qualifier, if the box lacks it.
 #[tactic(auto, unfolding(crate::specs::SurveyText::lacking_line))]
-fn write_lacking_at<W: Write + Drop>(
-    opened: &Opened<'_>,
-    qualifiers: &Qualifiers,
-    at: Coord,
-    out: &mut W,
-) -> io::Result<bool>
-    requires { (c : coord.Coord) → spread_in qualifiers.now c ≡ spread_of (numbers_at c (rows_in_stack opened.now.stack)) }
-    ensures text { Writes W.contents out.old out.new result
-        (lacking_line (lacks (opened_of opened.now).sets (rows_in_stack opened.now.stack) at) at) }
-    ensures lacks { IfOk result (λ lacking. lacking ≡ lacks (opened_of opened.now).sets (rows_in_stack opened.now.stack) at) }
+fn write_lacking<W: Write + Drop>(lacking: bool, coord: Coord, out: &mut W) -> io::Result<()>
+    ensures { Writes W.contents out.old out.new result (lacking_line lacking coord) }
 {
-    let lacking = opened.lacks(at, qualifiers.spread(at));
     if lacking {
-        write_lacks(at, out)?;
+        write_lacks(coord, out)
+    } else {
+        Ok(())
     }
-    Ok(lacking)
 }

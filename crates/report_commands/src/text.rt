@@ -106,8 +106,7 @@ pub(crate) fn write_shared<W: Write + Drop>(
     let Some(shared) = shared else {
         return Ok(());
     };
-    out.write_all(b"warning ")?;
-    write_named_number("shared-names", shared.count as u128, out)?;
+    write_named_number("warning shared-names", shared.count as u128, out)?;
     out.write_all(b" first ")?;
     write_id(shared.first, out)?;
     out.write_all(b"\n")
@@ -126,8 +125,7 @@ pub(crate) fn write_qualifier<W: Write + Drop>(
         return Ok(());
     }
     write_named_coord("qualifier", coord, out)?;
-    out.write_all(b" ")?;
-    write_named_number("rows", u128::from(spread.count), out)?;
+    write_named_number(" rows", u128::from(spread.count), out)?;
     write_range(coord, spread, out)?;
     out.write_all(b"\n")
 }

@@ -1,5 +1,5 @@
 use Rattle.std.proofs.Common.{refl}
 use Rattle.report_commands.proofs.opened.read_box.Goals as goal
 
-pub returns-clause-value : goal.returns-clause-value
-returns-clause-value c = rw (c.in-Some.is, c.in_ok-members.ensures.value) refl
+pub returns : goal.returns
+returns c = (rw (c.in-Some.is, c.in_ok-members.ensures.value) refl, tt)

@@ -4,8 +4,7 @@ use Rattle.report_commands.proofs.rows.note_rows.Goals as goal
 
 pub loop-row-preserved : goal.loop-row-preserved
 loop-row-preserved c =
-    let row = rw c.strings-strings.ensures at c.note_row.ensures in
-    let step = noted-next _ _ _ _ _ _ c.in-Some.ensures.steps row in
+    let step = noted-next _ _ _ _ _ _ c.in-Some-row.ensures.steps c.note_row.ensures in
     record { can = tt; ends = tt; left = sym step ∙ c.loop-row.invariant.left }
 
 pub returns : goal.returns

@@ -1,8 +1,9 @@
 use Rattle.std.proofs.Common.{◌≡◌}
 use Rattle.std.specs.List.{flat_map}
 use Rattle.command_base.specs.cert_tree.box_answers.NumberSet.{locale_numbers}
-use Rattle.command_base.specs.overlay_map.resource_table.Table.{rows_of}
+use Rattle.command_base.specs.overlay_map.string_pool.Pool.{pool_of}
 use Rattle.report_commands.specs.Findings.{noted}
+use Rattle.report_commands.specs.LayerNotes.{notes_of_rows}
 use Rattle.report_commands.specs.RowNotes.{notes_of_row}
 use Rattle.report_commands.proofs.rows.note_rows.Given as goal
 
@@ -11,5 +12,5 @@ abbrev pub invariant-loop-row : goal.invariant-loop-row
 invariant-loop-row l = record {
   can : (goal.iterator-loop-row).can_next l.row-iterator;
   ends : (goal.iterator-loop-row).is_finite l.row-iterator;
-  left : noted l.findings (flat_map (notes_of_row l.rule (locale_numbers l.locales) l.table.strings) l.row-iterator) ≡ noted l.fn.findings (flat_map (notes_of_row l.rule (locale_numbers l.locales) l.table.strings) (rows_of l.table));
+  left : noted l.findings (flat_map (notes_of_row l.rule (locale_numbers l.locales) (pool_of l.strings)) l.row-iterator) ≡ noted l.fn.findings (notes_of_rows l.rule l.stack (locale_numbers l.locales) l.place);
 }

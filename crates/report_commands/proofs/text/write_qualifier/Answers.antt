@@ -12,7 +12,6 @@ returns g c =
     let count = c.args.spread.count in
     let some : (count == 0) ≡ false = ⊎_elim (λ none. absurd (c.if-spread-eq0.false none.1)) (λ some. some.0) (eqb_tells count 0) in
     let rows = rw c.from.ensures at c.in_ok-write_named_number.ensures in
-    let to_space = Appends-trans _ _ _ _ _ c.in_ok-write_named_coord.ensures c.in_ok-write_all.ensures.bytes in
-    let to_rows = Appends-trans _ _ _ _ _ to_space rows in
+    let to_rows = Appends-trans _ _ _ _ _ c.in_ok-write_named_coord.ensures rows in
     let to_range = Appends-trans _ _ _ _ _ to_rows c.in_ok-write_range.ensures in
-    rw some (on_ok_weaker c.write_all-2.result (λ last. Appends-trans _ _ _ _ _ to_range last) c.write_all-2.ensures.bytes)
+    rw some (on_ok_weaker c.write_all.result (λ last. Appends-trans _ _ _ _ _ to_range last) c.write_all.ensures.bytes)

@@ -1,12 +1,13 @@
 use Rattle.std.proofs.Common.{sym, ◌∙◌}
 use Rattle.command_base.specs.overlay_map.type_chunks.Row.{row_of}
 use Rattle.report_commands.specs.Counting.{said_at}
-use Rattle.report_commands.proofs.QualifierSteps.{counted-next_at, counted-end_at}
+use Rattle.report_commands.proofs.QualifierSteps.{counted-one, counted-next_at, counted-end_at}
 use Rattle.report_commands.proofs.qualifiers.Qualifiers.add_coords.Goals as goal
 
 pub loop-coord-preserved : goal.loop-coord-preserved
 loop-coord-preserved c =
-    sym (counted-next_at c.loop-coord.self c.add_coord.new.self (said_at (row_of c.args.row.now)) c.args.coords.now c.loop-coord.coord-index _ c.loop-coord-test.true c.add_coord.ensures)
+    let added = rw c.number_said.ensures at c.add_number.ensures in
+    sym (counted-next_at c.loop-coord.self c.add_number.new.self (said_at (row_of c.args.row.now)) c.args.coords.now c.loop-coord.coord-index _ c.loop-coord-test.true (added ∙ sym (counted-one _ _)))
     ∙ c.loop-coord.invariant
 
 pub returns : goal.returns

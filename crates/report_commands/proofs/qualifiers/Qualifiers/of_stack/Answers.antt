@@ -1,8 +1,17 @@
-use Rattle.std.proofs.Common.{ap, ◌∙◌}
+use Rattle.std.proofs.Common.{sym, ap, ◌∙◌, arith}
 use Rattle.report_commands.specs.declared.qualifiers.Qualifiers.{Qualifiers}
-use Rattle.report_commands.specs.Counting.{spread_in}
+use Rattle.report_commands.specs.Counting.{said_by_layer, spread_in}
 use Rattle.report_commands.proofs.QualifierLaws.{spread-of_stack}
+use Rattle.report_commands.proofs.QualifierSteps.{counted-layer, counted-end_at}
 use Rattle.report_commands.proofs.qualifiers.Qualifiers.of_stack.Goals as goal
 
+pub loop-place-preserved : goal.loop-place-preserved
+loop-place-preserved c =
+    sym (counted-layer c.loop-place.qualifiers c.add_layer.new.self c.args.stack.now c.loop-place.place (omega (arith, c.loop-place-test.true, c.len-place-end.ensures.value)) c.add_layer.ensures)
+    ∙ c.loop-place.invariant
+
 pub returns : goal.returns
-returns c = λ k. ap (λ (q : Qualifiers). spread_in q k) c.counted.ensures ∙ spread-of_stack c.args.stack.now k
+returns c =
+    let counted = sym (counted-end_at c.loop-place.qualifiers said_by_layer c.args.stack.now c.loop-place.place (omega (arith, c.loop-place-test.false, c.len-place-end.ensures.value)))
+    ∙ c.loop-place.invariant in
+    λ k. ap (λ (q : Qualifiers). spread_in q k) counted ∙ spread-of_stack c.args.stack.now k

@@ -31,8 +31,8 @@ returns-in_ok-write_all-in-Some g c =
       subst (λ (t : List ℕ). Appends old new t) text c.in_ok-write_all-in-Some.ensures.bytes,
     )
 
-pub returns-in_ok-write_no_goal-in-None : goal.returns-in_ok-write_no_goal-in-None
-returns-in_ok-write_no_goal-in-None g c =
+pub returns-in-None : goal.returns-in-None
+returns-in-None g c =
     let goals = c.args.self.now.certificate.goals.items in
     let there = slice_get_past goals c.args.goal (rw c.as_slice.ensures.value at c.in-None.ensures.lookup.3) in
-    (_, rw (slice_get-map goal_of goals c.args.goal, there) refl, c.in_ok-write_no_goal-in-None.ensures)
+    rw (slice_get-map goal_of goals c.args.goal, there) c.print_no_goal.ensures

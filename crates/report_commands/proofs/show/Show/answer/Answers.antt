@@ -18,4 +18,7 @@ returns-clause-answers g c =
     let show = c.args.self.now in
     read_then (λ read. ShowsFiles g.W.Write.contents c.args.out.now c.answer_of.new.out show.form show.pictured read c.answer_of.result)
     (g.I.Inputs.places c.args.inputs.now) (λ places. show_files places show.layers.now show.certificate.now)
-    (show_held c.in_ok-files.files) c.in_ok-files.ensures c.answer_of.ensures.answers
+    (show_held c.in_ok-files.files) c.in_ok-files.ensures c.answer_of.ensures.0
+
+pub returns-clause-unwritten : goal.returns-clause-unwritten
+returns-clause-unwritten g c = c.answer_of.ensures.1

@@ -21,4 +21,7 @@ returns-clause-answers g c =
     let survey = c.args.self.now in
     read_then (λ read. SurveysFiles g.W.Write.contents c.args.out.now c.answer_of.new.out survey.locales read c.answer_of.result)
     (g.I.Inputs.places c.args.inputs.now) (λ places. survey_files places survey.layers.now (option_map (λ path. path.now) survey.box_path))
-    (survey_held c.in_ok-files.files) c.in_ok-files.ensures c.answer_of.ensures.answers
+    (survey_held c.in_ok-files.files) c.in_ok-files.ensures c.answer_of.ensures.0
+
+pub returns-clause-unwritten : goal.returns-clause-unwritten
+returns-clause-unwritten g c = c.answer_of.ensures.1

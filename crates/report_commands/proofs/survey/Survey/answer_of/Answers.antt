@@ -1,15 +1,18 @@
 use Rattle.std.proofs.Common.{refl}
 use Rattle.std.proofs.lemmas.Result.{err_from_is_err_and}
-use Rattle.report_commands.proofs.Refusing.{kept_at_fault}
-use Rattle.report_commands.specs.Survey.{survey_held}
+use Rattle.report_commands.proofs.Refusing.{answered}
+use Rattle.report_commands.specs.Survey.{SurveyBytes, survey_held}
+use Rattle.report_commands.specs.SurveyOutput.{survey_output_by}
 use Rattle.report_commands.proofs.survey.Survey.answer_of.Goals as goal
 
-pub returns-clause-answers : goal.returns-clause-answers
-returns-clause-answers g c =
-    let printed = rw (c.deref.ensures.value, c.in_ok-layers.ensures, c.as_deref-box_json.ensures.value) at c.in_ok-survey_by.ensures in
-    (survey_held c.args.files.now, refl, printed)
+pub returns : goal.returns
+returns g c =
+    let rule = c.args.self.now.locales in
+    let printed = rw (c.deref.ensures.value, c.in_ok-layers.ensures, c.as_deref-box_json.ensures.value) at c.survey_by.ensures in
+    answered (λ (files : SurveyBytes). survey_output_by rule files.layers files.box_json) g.W.Write.contents c.args.out.now c.survey_by.new.out (survey_held c.args.files.now) c.survey_by.result
+    c.status_or_stop.result printed c.status_or_stop.ensures
 
-pub returns-in_err-survey_by-clause-unwritten : goal.returns-in_err-survey_by-clause-unwritten
-returns-in_err-survey_by-clause-unwritten g c =
-    let p = err_from_is_err_and c.from_residual-in_err-survey_by.result c.from_residual-in_err-survey_by.ensures.1 in
-    rw (p.1, p.2) (kept_at_fault g.W.Write.contents c.args.out.now c.survey_by.new.out c.in_err-survey_by.field-0.0 _ c.in_err-survey_by.ensures)
+pub returns-in_err-layers : goal.returns-in_err-layers
+returns-in_err-layers g c =
+    let p = err_from_is_err_and c.from_residual.result c.from_residual.ensures.1 in
+    rw (p.1, p.2) (λ told. absurd (told refl), λ told. refl)

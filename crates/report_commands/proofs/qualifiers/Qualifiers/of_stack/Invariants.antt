@@ -1,7 +1,7 @@
 use Rattle.std.proofs.Common.{◌≡◌, drop}
 use Rattle.std.specs.List.{flat_map}
 use Rattle.report_commands.specs.Counting.{counted, no_qualifiers, said_by_layer}
-use Rattle.report_commands.proofs.qualifiers.Qualifiers.counted.Given as goal
+use Rattle.report_commands.proofs.qualifiers.Qualifiers.of_stack.Given as goal
 
 -- with what the layers that are left say it comes to what all layers say
 abbrev pub invariant-loop-place : goal.invariant-loop-place
