@@ -1,9 +1,11 @@
 -- What members do alike in two stacks.
-use Rattle.std.proofs.Common.{◌≡◌, ℕ, List, true, false, ap, refl, sym, subst, ◌∙◌}
+use Rattle.std.proofs.Common.{◌≡◌, ℕ, List, [], ◌∷◌, ◌++◌, append_assoc, length, reverse, arith, Some, true, false, ap, sym, subst, ◌∙◌}
+use Rattle.std.proofs.lemmas.List.{length-append, reverse-reverse}
+use Rattle.std.proofs.lemmas.List.Elements.{All-pop}
 use Rattle.cert_maker.specs.box_answers.NumberSet.{SetOf}
 use Rattle.cert_maker.specs.box_answers.Members.{IsMember}
-use Rattle.cert_maker.specs.cert_checker.overlay_map.Layer.{LayerOf}
-use Rattle.cert_maker.specs.cert_checker.box_trace.OpenBox.{IsReached}
+use Rattle.cert_maker.specs.cert_checker.box_trace.Halving.{OpensHalves}
+use Rattle.cert_maker.specs.cert_checker.box_trace.OpenBox.{boxes_of, IsReached}
 use Rattle.cert_maker.specs.cert_checker.box_trace.declared.open_box.OpenBox.{OpenBox}
 use Rattle.cert_maker.specs.cert_checker.box_trace.Parting.{answer_of, IsToldApart}
 use Rattle.cert_maker.specs.cert_checker.box_trace.declared.parting.Parting.{Parting}
@@ -16,12 +18,14 @@ use Rattle.stack_diff.specs.Sides.{trace_in, pair_traces}
 use Rattle.cert_maker.specs.config_box.Tests.{TestOf}
 use Rattle.cert_maker.specs.config_box.Halves.{IsHalf}
 use Rattle.cert_maker.specs.Needed.{IsNeededTest}
+use Rattle.cert_maker.proofs.cert_checker.BoxSteps.{reverse-push}
+use Rattle.cert_maker.proofs.cert_checker.box_trace.OpenBoxSteps.{boxes-push}
 use Rattle.cert_maker.proofs.Cut.{needed-by-trace}
 use Rattle.stack_diff.specs.declared.pair_box.PairBox.{PairBox}
-use Rattle.stack_diff.specs.declared.tree.Leaf.{Leaf}
+use Rattle.stack_diff.specs.declared.pair_box.PairBoxes.{PairBoxes}
 use Rattle.stack_diff.specs.Parting.{HaveOneTrace}
-use Rattle.stack_diff.specs.PairBox.{members_of, IsTraceOf, EndAt, IsOpen, PartsBoth, OpensHalves}
-use Rattle.stack_diff.specs.Tree.{AddsTest}
+use Rattle.stack_diff.specs.AddedNode.{AddsTest}
+use Rattle.stack_diff.specs.PairBox.{IsTraceOf, EndAt, IsOpen, PartsBoth, AreOpen, AreWhole, PopsLast}
 
 -- members part in the stack before
 pub parts-before : (pair : Pair) (sets : List SetOf) (parting : Parting) → IsToldApart parting sets (trace_in pair.before) → PartsBoth pair sets parting
@@ -49,36 +53,52 @@ one-alone pair sets end alone trace =
     let same : trace_in pair.after ≡ trace_in pair.before = λ i d. content_trace (both.0 i) (both.1 i) d in
     one-in-both pair sets end end (subst (λ (of : List ℕ → Trace). IsTraceOf of sets (One end)) same trace) trace
 
--- ---- a walk that goes on
+-- ---- boxes
 
--- by the same members, in either stack
-pub goes-further : (pair : Pair) (part : PairBox) (before after : OpenBox) (olds news : List LayerOf) → olds ≡ pair.before.stack.now → news ≡ pair.after.stack.now → before.members ≡ part.before.members
-    → after.members ≡ part.after.members → ((trace : List ℕ → Trace) → IsReached olds trace part.before → IsReached olds trace before)
-    → ((trace : List ℕ → Trace) → IsReached news trace part.after → IsReached news trace after) → IsOpen pair part → IsOpen pair (record { before = before; after = after })
-goes-further pair part before after olds news old_is new_is old_members new_members goes_before goes_after is_open = record {
+-- both walks of a box go on
+pub goes-further : (pair : Pair) (part : PairBox) (before after : OpenBox) → IsOpen pair part → before.members ≡ part.before.members → IsReached pair.before.stack.now (trace_in pair.before) before
+    → after.members ≡ part.after.members → IsReached pair.after.stack.now (trace_in pair.after) after → IsOpen pair (record { before = before; after = after })
+goes-further pair part before after is_open old_members old_reached new_members new_reached = record {
   same = new_members ∙ is_open.same ∙ sym old_members;
-  before_reached = subst (λ (layers : List LayerOf). IsReached layers (trace_in pair.before) before) old_is
-      (goes_before (trace_in pair.before) (subst (λ (layers : List LayerOf). IsReached layers (trace_in pair.before) part.before) (sym old_is) is_open.before_reached));
-  after_reached = subst (λ (layers : List LayerOf). IsReached layers (trace_in pair.after) after) new_is
-      (goes_after (trace_in pair.after) (subst (λ (layers : List LayerOf). IsReached layers (trace_in pair.after) part.after) (sym new_is) is_open.after_reached));
+  before_reached = old_reached;
+  after_reached = new_reached;
 }
+
+pub whole-open : (pair : Pair) (sets : List SetOf) (boxes : PairBoxes) → AreWhole pair sets boxes → AreOpen pair boxes
+whole-open pair sets boxes whole = record { same = whole.after.alone ∙ sym whole.before.alone; before_reached = whole.before.reached; after_reached = whole.after.reached }
+
+last-same : (xs ys : List (List SetOf)) (x y : List SetOf) → xs ++ x ∷ [] ≡ ys ++ y ∷ [] → (xs ≡ ys) × (x ≡ y)
+last-same xs ys x y e =
+    let turned : x ∷ reverse xs ≡ y ∷ reverse ys = sym (reverse-push xs x) ∙ ap reverse e ∙ reverse-push ys y in
+    let rest : reverse xs ≡ reverse ys = cc in
+    let last : x ≡ y = cc in
+    (sym (reverse-reverse xs) ∙ ap reverse rest ∙ reverse-reverse ys, last)
+
+pub none-left : (rest : List (List SetOf)) (part : List SetOf) → rest ++ part ∷ [] ≡ [] → ⊥
+none-left rest part e = let long = length-append rest (part ∷ []) in let none = ap length e in omega (arith, long, none)
+
+-- what is taken was open, and so is what is left
+pub popped-open : (pair : Pair) (old new : PairBoxes) (part : PairBox) → PopsLast old new part → AreOpen pair old → IsOpen pair part × AreOpen pair new
+popped-open pair old new part pops are =
+    let before = All-pop (IsReached pair.before.stack.now (trace_in pair.before)) old.before new.before (Some part.before) pops.before are.before_reached in
+    let after = All-pop (IsReached pair.after.stack.now (trace_in pair.after)) old.after new.after (Some part.after) pops.after are.after_reached in
+    let same = last-same (boxes_of new.after) (boxes_of new.before) part.after.members part.before.members (sym (boxes-push _ _ _ pops.after) ∙ are.same ∙ boxes-push _ _ _ pops.before) in (
+      record { same = same.1; before_reached = before.1; after_reached = after.1 },
+      record { same = same.0; before_reached = before.0; after_reached = after.0 },
+    )
 
 -- ---- a test
 
 -- the box of the walk that went on has the same members
-pub adds-test : (pair : Pair) (part further : PairBox) (parting : Parting) (test : TestOf) (opened_boxes new_open : List PairBox) (told : List Leaf) → members_of further ≡ members_of part → IsOpen pair further
-    → PartsBoth pair (members_of part) parting → IsNeededTest (answer_of parting) (members_of further) (IsMember (members_of further)) test → OpensHalves further test opened_boxes new_open
-    → AddsTest pair part opened_boxes new_open told told
-adds-test pair part further parting test opened_boxes new_open told same is_open parts needed halves = record {
+pub adds-test : (pair : Pair) (part further : List SetOf) (parting : Parting) (test : TestOf) (old new : List (List SetOf)) → further ≡ part → PartsBoth pair part parting
+    → IsNeededTest (answer_of parting) further (IsMember further) test → OpensHalves further test old new → AddsTest (pair_traces pair) part old new
+adds-test pair part further parting test old new same parts needed halves = record {
   test = test;
-  needed = needed-by-trace (pair_traces pair) (answer_of parting) (members_of part) test parts.traces_tell
+  needed = needed-by-trace (pair_traces pair) (answer_of parting) part test parts.traces_tell
       (subst (λ (sets : List SetOf). IsNeededTest (answer_of parting) sets (IsMember sets) test) same needed);
   yes_half = halves.yes_half;
   no_half = halves.no_half;
-  opened = halves.opened;
-  yes_members = subst (λ (sets : List SetOf). IsHalf sets test true (members_of halves.yes_half)) same halves.yes_members;
-  no_members = subst (λ (sets : List SetOf). IsHalf sets test false (members_of halves.no_half)) same halves.no_members;
-  yes_open = halves.yes_open pair is_open;
-  no_open = halves.no_open pair is_open;
-  same = refl;
+  opened = halves.opened ∙ append_assoc old (halves.no_half ∷ []) (halves.yes_half ∷ []);
+  yes_members = subst (λ (sets : List SetOf). IsHalf sets test true halves.yes_half) same halves.yes;
+  no_members = subst (λ (sets : List SetOf). IsHalf sets test false halves.no_half) same halves.no;
 }

@@ -2,18 +2,18 @@
 use Rattle.std.proofs.Common.{◌≡◌, ℕ, ◌+◌, ◌<◌, inl, inr, arith, true, false, List, [], ◌∷◌, ◌++◌, append_assoc, length, length-append, reverse, sym, ◌∙◌, refl, subst}
 use Rattle.config_box.specs.box_answers.NumberSet.{SetOf}
 use Rattle.config_box.specs.box_answers.Members.{IsBox}
-use Rattle.reference_resolver.specs.Trace.{Trace}
 use Rattle.cert_maker.specs.cert_tree.Certificate.{NodeOf, TestAt, ValueAt, BagAt}
 use Rattle.cert_maker.specs.cert_checker.Paths.{Path, after, root}
-use Rattle.cert_maker.specs.cert_checker.OpenBoxes.{Stand}
+use Rattle.cert_maker.specs.cert_checker.OpenBoxes.{IsBoxAt, Stand}
 use Rattle.cert_maker.specs.Needed.{IsNeeded, IsNeededAt}
 use Rattle.cert_maker.proofs.cert_checker.BoxSteps.{whole, half, popped, pushed}
-use Rattle.cert_maker.proofs.Parts.{Part, part-more, part-walk, walk-map, part-map, leaves, part-leaves}
+use Rattle.cert_maker.proofs.Parts.{Part, part-more, part-walk, walk-map, part-map, leaves, length-leaves, part-leaves, stand-length}
+use Rattle.std.proofs.lemmas.List.{length-reverse}
 use Rattle.cert_maker.proofs.Steps.{moved}
 use Rattle.stack_diff.specs.Parting.{PartsAt, IsParting}
-use Rattle.stack_diff.specs.LookUpBoxes.{AddsNode}
+use Rattle.stack_diff.specs.AddedNode.{AddsNode}
 
-module _ (trace : List ℕ → Trace) (sets : List SetOf) where
+module _ {X : Type 0} (trace : List ℕ → X) (sets : List SetOf) where
   abbrev holds : NodeOf → Path → Type 0
   holds = PartsAt trace sets
 
@@ -62,6 +62,14 @@ module _ (trace : List ℕ → Trace) (sets : List SetOf) where
   goes-on before rest new part n e going adds =
       step rest new part n going.tree going.paths going.count going.part (popped sets part before rest going.paths e going.stand) adds
 
+  first-of : (rest : List (List SetOf)) (part : List SetOf) (paths : List Path) → Stand sets (part ∷ rest) paths → (path : Path) × IsBoxAt sets path part
+  first-of rest part [] stand = absurd stand
+  first-of rest part (path ∷ paths) stand = (path, stand.0)
+
+  -- the last box is that of a path
+  pub last-at : (before rest : List (List SetOf)) (part : List SetOf) (n : ℕ) → before ≡ rest ++ part ∷ [] → Going before n → (path : Path) × IsBoxAt sets path part
+  last-at before rest part n e going = first-of (reverse rest) part going.paths (popped sets part before rest going.paths e going.stand)
+
   no-paths : (paths : List Path) → Stand sets [] paths → paths ≡ []
   no-paths [] stand = refl
   no-paths (path ∷ paths) stand = absurd stand
@@ -81,9 +89,12 @@ module _ (trace : List ℕ → Trace) (sets : List SetOf) where
   parting-needed nodes tree = walk-map holds (IsNeededAt trace sets) needed-at nodes root tree
 
   -- with a bare leaf at each open path it is a tree of needed tests
-  pub too-large : (boxes : List (List SetOf)) (n most : ℕ) → most < n → Going boxes n → (nodes : List NodeOf) × IsNeeded trace sets nodes × (most < length nodes)
+  pub too-large : (boxes : List (List SetOf)) (n most : ℕ) → most < n + length boxes → Going boxes n → (nodes : List NodeOf) × IsNeeded trace sets nodes × (most < length nodes)
   too-large boxes n most more going =
       let left = leaves (length going.paths) in
-      let long = length-append going.tree left in
+      let a = length-append going.tree left in
+      let b = length-leaves (length going.paths) in
+      let c = stand-length sets (reverse boxes) going.paths going.stand in
+      let d = length-reverse boxes in
       let count = going.count in
-      (going.tree ++ left, part-leaves (IsNeededAt trace sets) (λ path. tt) going.tree root going.paths (part-map holds (IsNeededAt trace sets) needed-at going.tree root going.paths going.part), omega (arith, long, count, more))
+      (going.tree ++ left, part-leaves (IsNeededAt trace sets) (λ path. tt) going.tree root going.paths (part-map holds (IsNeededAt trace sets) needed-at going.tree root going.paths going.part), omega (arith, a, b, c, d, count, more))

@@ -4,6 +4,7 @@ pub mod Once
 pub mod Changes
 pub mod Fewest
 pub mod PairBox
+pub mod AddedNode
 pub mod NeededTree
 pub mod Tree
 pub mod Grouped

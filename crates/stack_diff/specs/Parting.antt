@@ -22,13 +22,13 @@ abbrev pub HaveOneTrace : {X : Type 0} → (List ℕ → Type 0) → (List ℕ �
 HaveOneTrace members trace = (d e : List ℕ) → members d → members e → trace d ≡ trace e
 
 -- a test is needed, and all that come to a leaf have one trace
-abbrev pub PartsAt : (List ℕ → Trace) → List SetOf → NodeOf → Path → Type 0
+abbrev pub PartsAt : {X : Type 0} → (List ℕ → X) → List SetOf → NodeOf → Path → Type 0
 PartsAt trace sets (TestAt test) path = IsNeededTest trace sets (IsAt sets path) test
 PartsAt trace sets (ValueAt layer value) path = HaveOneTrace (IsAt sets path) trace
 PartsAt trace sets (BagAt id) path = HaveOneTrace (IsAt sets path) trace
 
 -- a tree parts the members of a box until those of each part have one trace, with needed tests alone
-abbrev pub IsParting : (List ℕ → Trace) → List SetOf → List NodeOf → Type 0
+abbrev pub IsParting : {X : Type 0} → (List ℕ → X) → List SetOf → List NodeOf → Type 0
 IsParting trace sets nodes = HoldsOfTree (PartsAt trace sets) nodes
 
 -- such a tree leaves so many nodes of the limit; or one of needed tests is above it

@@ -1,14 +1,12 @@
 -- How the tree of a resource in two stacks grows: node by node, with its open boxes. (Cited by contracts of this crate alone.)
-use Rattle.std.specs.Prelude.{◌≡◌, ◌≢◌, ◌⊎◌, ℕ, ◌<◌, ◌≤◌, true, false, List, [], ◌∷◌, ◌++◌, map, Option, Some, None}
+use Rattle.std.specs.Prelude.{◌≡◌, ◌≢◌, ◌⊎◌, ℕ, ◌<◌, ◌≤◌, List, [], ◌∷◌, ◌++◌, map, Option, Some, None}
 use Rattle.std.specs.List.{All}
 use Rattle.cert_maker.specs.box_answers.NumberSet.{SetOf}
 use Rattle.cert_maker.specs.box_answers.Members.{IsMember, IsBox}
-use Rattle.cert_maker.specs.config_box.Tests.{TestOf}
-use Rattle.cert_maker.specs.config_box.Halves.{IsHalf}
-use Rattle.cert_maker.specs.Needed.{IsNeededTest}
 use Rattle.stack_diff.specs.DifferenceSeen.{difference_of}
 use Rattle.stack_diff.specs.declared.pair.Pair.{Pair}
 use Rattle.stack_diff.specs.declared.pair_box.PairBox.{PairBox}
+use Rattle.stack_diff.specs.declared.pair_box.PairBoxes.{PairBoxes}
 use Rattle.stack_diff.specs.declared.tree.Leaf.{Leaf}
 use Rattle.stack_diff.specs.declared.tree.Leaves.{Leaves}
 use Rattle.stack_diff.specs.Sides.{pair_differs, pair_traces}
@@ -16,20 +14,9 @@ use Rattle.config_box.specs.Devices.{HasOnce}
 use Rattle.config_box.specs.Kinds.{IsOfKinds}
 use Rattle.stack_diff.specs.Changes.{IsSo}
 use Rattle.stack_diff.specs.NeededTree.{HasNeededTree}
-use Rattle.stack_diff.specs.PairBox.{members_of, IsOpen}
-
--- a needed test, whose halves are opened
-pub record AddsTest (pair : Pair) (part : PairBox) (opened_boxes new_open : List PairBox) (told new_told : List Leaf) : Type 0 where
-  pub test : TestOf
-  pub needed : IsNeededTest (pair_traces pair) (members_of part) (IsMember (members_of part)) test
-  pub yes_half : PairBox
-  pub no_half : PairBox
-  pub opened : new_open ≡ opened_boxes ++ no_half ∷ yes_half ∷ []
-  pub yes_members : IsHalf (members_of part) test true (members_of yes_half)
-  pub no_members : IsHalf (members_of part) test false (members_of no_half)
-  pub yes_open : IsOpen pair yes_half
-  pub no_open : IsOpen pair no_half
-  pub same : new_told ≡ told
+use Rattle.stack_diff.specs.AddedNode.{AddsTest}
+use Rattle.stack_diff.specs.PairBox.{members_of, members_open, AreOpen}
+use Rattle.stack_diff.specs.Parting.{HaveOneTrace}
 
 -- on no member they differ
 abbrev pub DoNotDiffer : Pair → List SetOf → Type 0
@@ -45,13 +32,21 @@ abbrev pub TellsLeaf : Pair → List SetOf → List Leaf → List Leaf → Type 
 TellsLeaf pair sets told new_told =
     ((new_told ≡ told) × DoNotDiffer pair sets) ⊎ ((leaf : Leaf) × (new_told ≡ told ++ leaf ∷ []) × IsLeafOf pair sets leaf)
 
-pub record AddsLeaf (pair : Pair) (part : PairBox) (opened_boxes new_open : List PairBox) (told new_told : List Leaf) : Type 0 where
-  pub same : new_open ≡ opened_boxes
-  pub tells : TellsLeaf pair (members_of part) told new_told
+-- a leaf of the tree, on which all members have one trace
+pub record AddsLeaf (pair : Pair) (part : List SetOf) (old new : List (List SetOf)) (told new_told : List Leaf) : Type 0 where
+  pub same : new ≡ old
+  pub one : HaveOneTrace (IsMember part) (pair_traces pair)
+  pub tells : TellsLeaf pair part told new_told
 
-abbrev pub AddsNode : Pair → PairBox → List PairBox → List PairBox → List Leaf → List Leaf → Type 0
-AddsNode pair part opened_boxes new_open told new_told =
-    AddsTest pair part opened_boxes new_open told new_told ⊎ AddsLeaf pair part opened_boxes new_open told new_told
+-- a test, or a leaf
+abbrev pub AddsPairNode : Pair → List SetOf → List (List SetOf) → List (List SetOf) → List Leaf → List Leaf → Type 0
+AddsPairNode pair part old new told new_told =
+    (AddsTest (pair_traces pair) part old new × (new_told ≡ told)) ⊎ AddsLeaf pair part old new told new_told
+
+-- and what is open goes on
+pub record TakesBox (pair : Pair) (part : PairBox) (old new : PairBoxes) (told new_told : List Leaf) : Type 0 where
+  pub node : AddsPairNode pair (members_of part) (members_open old) (members_open new) told new_told
+  pub goes_on : AreOpen pair old → AreOpen pair new
 
 -- ---- a whole tree
 

@@ -12,7 +12,8 @@ ghost use Rattle.cert_maker.specs.Growth.{CanBeAsked};
 ghost use Rattle.stack_diff.specs.LayersSeen.{loads_of};
 ghost use Rattle.stack_diff.specs.Raising.{level_of, cells_of, KeepsReach, no_more, loaded_more};
 ghost use Rattle.stack_diff.specs.Parting.{IsParted};
-ghost use Rattle.stack_diff.specs.LookUpBoxes.{trace_of_look_up, IsOpenFor, AddsNode};
+ghost use Rattle.stack_diff.specs.AddedNode.{AddsNode};
+ghost use Rattle.stack_diff.specs.LookUpBoxes.{trace_of_look_up, IsOpenFor};
 
 use crate::look_up::LookUp;
 use crate::row_use::RowUse;

@@ -3,17 +3,18 @@
 ghost use Rattle.std.specs.Prelude.{◌≡◌, ℕ, List, [], ◌∷◌, ◌++◌, ◌+◌, IfOk, OnOk};
 ghost use Rattle.std.specs.Option.{option_map};
 ghost use Rattle.answer_text.specs.config_record.DeviceSeen.{device_numbers};
+ghost use Rattle.cert_maker.specs.box_answers.NumberSet.{SetOf};
 ghost use Rattle.cert_maker.specs.box_answers.Members.{IsMember};
 ghost use Rattle.stack_diff.specs.DifferenceSeen.{difference_of};
 ghost use Rattle.stack_diff.specs.Sides.{ends_told, pair_traces};
 ghost use Rattle.stack_diff.specs.Parting.{HaveOneTrace};
-ghost use Rattle.stack_diff.specs.PairBox.{EndAt, IsOpen};
-ghost use Rattle.stack_diff.specs.Tree.{TellsLeaf, AddsNode, IsGrown};
+ghost use Rattle.stack_diff.specs.PairBox.{EndAt, IsOpen, AreOpen, AreWhole};
+ghost use Rattle.stack_diff.specs.Tree.{TellsLeaf, TakesBox, IsGrown};
 
 use crate::compared_with::ComparedWith;
 use crate::difference::{Difference, difference_of_ends};
 use crate::pair::Pair;
-use crate::pair_box::{PairBox, PairTrace};
+use crate::pair_box::{PairBox, PairBoxes, PairTrace};
 use answer_text::{Device, End, content_of_end};
 use cert_maker::{ConfigBox, OutOfMemory, parting_test};
 use std::alloc::{AllocError, Global};
@@ -32,8 +33,7 @@ pub(crate) struct Leaves<'a> {
     pub(crate) nodes: usize,
 }
 
-/// Grows the tree of a resource, of at most so many nodes; none where it has more. Each open box needs at least one node,
-/// so it is given up where nodes and open boxes together exceed the limit.
+/// Grows the tree of a resource, of at most so many nodes; none where it has more.
 pub(crate) fn grow_tree<'a>(
     alloc: Global,
     pair: Pair<'_, 'a>,
@@ -42,10 +42,25 @@ pub(crate) fn grow_tree<'a>(
 ) -> Result<Option<Leaves<'a>>, OutOfMemory>
     ensures { IfOk result (IsGrown pair.entry members.now most) }
 {
+    let mut open_boxes = PairBoxes::whole(alloc, pair, members)?;
+    let grown = grow_nodes(alloc, pair, most, &mut open_boxes);
+    open_boxes.close();
+    grown
+}
+
+// The same from a whole box on. Each open box needs at least one node, so a tree is given up where its nodes and the open
+// boxes together exceed the limit.
+fn grow_nodes<'a, 's>(
+    alloc: Global,
+    pair: Pair<'_, 'a>,
+    most: usize,
+    open_boxes: &mut PairBoxes<'a, 's>,
+) -> Result<Option<Leaves<'a>>, OutOfMemory>
+    requires { AreOpen pair open_boxes.old }
+    ensures { IfOk result (λ grown. (sets : List SetOf) → AreWhole pair.entry sets open_boxes.old → IsGrown pair.entry sets most grown) }
+{
     let mut nodes: usize = 0;
     let mut told = Vec::new(alloc);
-    let mut open_boxes = Vec::new(alloc);
-    open_boxes.push(PairBox::whole(alloc, pair, members)?)?;
     'boxes: loop {
         if nodes as u128 + open_boxes.len() as u128 > most as u128 {
             return Ok(None);
@@ -53,24 +68,24 @@ pub(crate) fn grow_tree<'a>(
         let Some(mut part) = open_boxes.pop() else {
             return Ok(Some(Leaves { told, nodes }));
         };
-        let added = add_node(alloc, pair, &mut part, &mut open_boxes, &mut told);
-        drop(part);
+        let added = add_node(alloc, pair, &mut part, open_boxes, &mut told);
+        part.close();
         added?;
         nodes += 1;
     }
 }
 
 /// Adds the node to which the members of an open box come: a test, which opens its halves, or a leaf, which tells how
-/// the stacks differ for them. The box is lent, so that it is dropped in one place.
+/// the stacks differ for them.
 fn add_node<'a, 's>(
     alloc: Global,
     pair: Pair<'_, 'a>,
     part: &mut PairBox<'a, 's>,
-    open_boxes: &mut Vec<PairBox<'a, 's>>,
+    open_boxes: &mut PairBoxes<'a, 's>,
     told: &mut Vec<Leaf<'a>>,
 ) -> Result<(), OutOfMemory>
     requires { IsOpen pair part.old }
-    ensures { IfOk result (λ _. AddsNode pair.entry part.old open_boxes.old.items open_boxes.new.items told.old.items told.new.items) }
+    ensures { IfOk result (λ _. TakesBox pair.entry part.old open_boxes.old open_boxes.new told.old.items told.new.items) }
 {
     let parting = match part.trace(alloc, pair)? {
         PairTrace::Parted(parting) => parting,
@@ -79,7 +94,7 @@ fn add_node<'a, 's>(
         }
     };
     let test = parting_test(alloc, part.members(), &parting)?;
-    part.open_halves(alloc, &test, open_boxes)
+    open_boxes.push_halves(alloc, part, &test)
 }
 
 // Tells how the stacks differ for these members, which come to these ends, if they do.

@@ -9,7 +9,8 @@ use Rattle.cert_maker.specs.cert_checker.box_trace.CommonTrace.{IsCommonTrace}
 use Rattle.cert_maker.specs.cert_checker.box_trace.OpenBox.{boxes_of}
 use Rattle.cert_maker.proofs.cert_checker.box_trace.OpenBoxSteps.{rest_of, reached_there, told_in_place}
 use Rattle.stack_diff.specs.LayersSeen.{loads_of}
-use Rattle.stack_diff.specs.LookUpBoxes.{trace_of_look_up, AddsTest}
+use Rattle.stack_diff.specs.AddedNode.{AddsTest}
+use Rattle.stack_diff.specs.LookUpBoxes.{trace_of_look_up}
 use Rattle.stack_diff.specs.Raising.{level_of, cells_of, KeepsReach, loaded_more}
 use Rattle.cert_maker.proofs.Cut.{needed-by-trace}
 use Rattle.stack_diff.proofs.LoadedSteps.{test-opened}

@@ -1,13 +1,23 @@
-use Rattle.std.proofs.Common.{List, ◌∙◌, subst}
+use Rattle.std.proofs.Common.{List, [], ◌∷◌, ◌∙◌, ap, subst}
+use Rattle.std.proofs.lemmas.List.Elements.{All-nil, All-push, All-same}
 use Rattle.std.proofs.lemmas.Result.{IfOk-weaker}
+use Rattle.cert_maker.specs.box_answers.NumberSet.{SetOf}
+use Rattle.cert_maker.specs.box_answers.Members.{IsBox}
 use Rattle.cert_maker.specs.cert_checker.overlay_map.Layer.{LayerOf}
 use Rattle.cert_maker.specs.cert_checker.bags_themes.ContentTrace.{content_trace}
-use Rattle.cert_maker.specs.cert_checker.box_trace.OpenBox.{IsReached}
+use Rattle.cert_maker.specs.cert_checker.box_trace.OpenBox.{boxes_of, IsReached}
+use Rattle.stack_diff.specs.Sides.{trace_in}
 use Rattle.stack_diff.proofs.pair_box.whole_of.Goals as goal
 
-pub returns-clause-members : goal.returns-clause-members
-returns-clause-members c = IfOk-weaker c.whole_of_content.result _ _ (λ part is. is ∙ c.in_ok-members.ensures.value) c.whole_of_content.ensures.members
-
-pub returns-clause-reached : goal.returns-clause-reached
-returns-clause-reached c =
-    IfOk-weaker c.whole_of_content.result _ _ (λ part reached. subst (λ (layers : List LayerOf). IsReached layers (content_trace layers c.args.resource.id.0) part) c.stack.ensures reached) c.whole_of_content.ensures.reached
+pub returns : goal.returns
+returns c =
+    let reached = IsReached c.args.resource.stack.now (trace_in c.args.resource) in
+    let members = c.in_ok-members.ensures in
+    let whole = c.in_ok-whole.ensures in
+    let here = subst (λ (layers : List LayerOf). IsReached layers (content_trace layers c.args.resource.id.0) c.in_ok-whole.whole) c.stack.ensures whole.reached in
+    IfOk-weaker c.of.result _ _ (λ boxes is. record {
+      is_box = subst IsBox members.value members.sets;
+      alone = ap boxes_of is ∙ ap (λ (b : List SetOf). b ∷ []) (whole.members ∙ members.value);
+      reached = All-same reached _ _ is (All-push reached [] _ (All-nil reached) here);
+    })
+    c.of.ensures

@@ -1,4 +1,4 @@
-use Rattle.std.proofs.Common.{◌≡◌, ℕ, ◌+◌, arith, length, ap}
+use Rattle.std.proofs.Common.{◌≡◌, ◌+◌, arith, length, ap}
 use Rattle.std.proofs.lemmas.Grind.{common_steps}
 use Rattle.reference_resolver.specs.type_chunks.Row.{row_of}
 use Rattle.stack_diff.specs.PlacesSeen.{places_at}
