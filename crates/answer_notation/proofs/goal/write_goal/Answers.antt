@@ -1,11 +1,10 @@
-use Rattle.std.proofs.Common.{List, sym, subst}
+use Rattle.std.proofs.Common.{sym, subst}
 use Rattle.std.proofs.KnownBytes.{Appends-trans}
 use Rattle.std.proofs.lemmas.Result.{on_ok_weaker}
-use Rattle.std.specs.List.{flat_map}
 use Rattle.contract_words.specs.Writes.{Writes}
 use Rattle.res_value.specs.declared.goal.Goal.{Goal}
 use Rattle.res_value.specs.Goal.{goal_seen}
-use Rattle.answer_notation.specs.GoalNotation.{goal_notation, next_style}
+use Rattle.answer_notation.specs.GoalNotation.{goal_notation}
 use Rattle.answer_notation.proofs.goal.write_goal.Goals as goal
 
 pub returns-in_ok-write_all-in-Attr : goal.returns-in_ok-write_all-in-Attr
