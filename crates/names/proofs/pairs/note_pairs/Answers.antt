@@ -1,4 +1,4 @@
-use Rattle.std.proofs.Common.{◌≡◌, List, Bool, ◌++◌, ◌∷◌, [], get_or, map, take, refl, sym, ap, subst, ◌∙◌}
+use Rattle.std.proofs.Common.{◌≡◌, List, Bool, ◌++◌, ◌∷◌, [], map, take, sym, ap, subst, ◌∙◌}
 use Rattle.std.proofs.lemmas.List.{map_more, take_all}
 use Rattle.res_value.specs.declared.res_id.ResId.{ResId}
 use Rattle.names.specs.AskedWords.{words_for, AreAsked, PutsFor}
