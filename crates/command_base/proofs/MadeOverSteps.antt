@@ -1,5 +1,5 @@
 -- What is made of an overlay over its base: the text of the map alone, or the lines of what it leaves out.
-use Rattle.std.proofs.Common.{◌≡◌, ℕ, List, [], Option, Result, Ok, Err, refl, ap, sym, ◌∙◌}
+use Rattle.std.proofs.Common.{◌≡◌, ℕ, List, Option, Result, Ok, Err, refl, ap, sym, ◌∙◌}
 use Rattle.contract_words.specs.Faults.{◌>>=◌}
 use Rattle.command_base.specs.Inputs.{made_json}
 use Rattle.command_base.specs.LayerMark.{layer_mark}
