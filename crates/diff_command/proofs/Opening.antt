@@ -1,5 +1,5 @@
 -- What is opened of two stacks of layers and a box.
-use Rattle.std.proofs.Common.{◌≡◌, ◌≢◌, ℕ, Bool, true, false, List, ◌++◌, Option, Some, None, MatchOption, Result, Ok, Err, refl, ap, unwrap_or, ◌∙◌}
+use Rattle.std.proofs.Common.{◌≡◌, ◌≢◌, ℕ, List, ◌++◌, Option, Some, None, Result, Ok, Err, refl, ap, unwrap_or, ◌∙◌}
 use Rattle.command_base.specs.MapErr.{map_err}
 use Rattle.command_base.specs.StackBytes.{LayerBytes, stack_in, stack_on_side}
 use Rattle.command_base.specs.ToolFault.{fault_of_box, fault_on_side}
@@ -18,6 +18,7 @@ use Rattle.stack_diff.specs.names.NamedIds.{packages_of}
 use Rattle.stack_diff.specs.names.Packages.{PackageNameOf}
 use Rattle.diff_command.specs.DiffInputs.{diff_inputs_by, have_same_bytes}
 use Rattle.diff_command.specs.OpenedSeen.{stacks_seen}
+use Rattle.diff_command.specs.OpensChanged.{IsChanged}
 
 -- layers that are read on one side are read on the other
 on-new-side : (read : Result (List LayerOf) ToolFault) (stack : List LayerOf) → map_err (fault_on_side Old) read ≡ Ok stack → map_err (fault_on_side New) read ≡ Ok stack
@@ -26,29 +27,28 @@ on-new-side (Err fault) stack is = absurd cc
 
 -- the new stack, which is the old one where its layers have the same bytes
 pub new-stack : (old_bytes new_bytes : List LayerBytes) (old : List LayerOf) (changed : Option (List LayerOf)) → stack_on_side Old old_bytes ≡ Ok old
-    → MatchOption changed (new_bytes ≡ old_bytes) (λ stack. stack_on_side New new_bytes ≡ Ok stack) → stack_on_side New new_bytes ≡ Ok (unwrap_or changed old)
-new-stack old_bytes new_bytes old None read same = ap (λ (bytes : List LayerBytes). stack_on_side New bytes) same ∙ on-new-side (stack_in old_bytes) old read
-new-stack old_bytes new_bytes old (Some stack) read is = is
+    → IsChanged old_bytes new_bytes changed → stack_on_side New new_bytes ≡ Ok (unwrap_or changed old)
+new-stack old_bytes new_bytes old None read is = ap (λ (bytes : List LayerBytes). stack_on_side New bytes) is.1 ∙ on-new-side (stack_in old_bytes) old read
+new-stack old_bytes new_bytes old (Some stack) read is = is.1
 
-both-stacks : (old : List LayerOf) (changed : Option (List LayerOf)) (packages : List PackageNameOf) (same : Bool) → MatchOption changed (same ≡ true) (λ _. same ≡ false)
-    → record { old = old; new = unwrap_or changed old; packages = packages; compared = itself_if same } ≡ stacks_seen old changed packages
-both-stacks old None packages same is = rw is refl
-both-stacks old (Some stack) packages same is = rw is refl
+both-stacks : (old_bytes new_bytes : List LayerBytes) (old : List LayerOf) (changed : Option (List LayerOf)) (packages : List PackageNameOf) → IsChanged old_bytes new_bytes changed
+    → record { old = old; new = unwrap_or changed old; packages = packages; compared = itself_if (have_same_bytes old_bytes new_bytes) } ≡ stacks_seen old changed packages
+both-stacks old_bytes new_bytes old None packages is = rw is.0 refl
+both-stacks old_bytes new_bytes old (Some stack) packages is = rw is.0 refl
 
 module _ (rule : LocaleRule) (old_bytes new_bytes : List LayerBytes) (box_json : List ℕ) (old : List LayerOf) where
   pub box-stops : (changed : Option (List LayerOf)) (fault : BoxFault) → stack_on_side Old old_bytes ≡ Ok old
-      → MatchOption changed (new_bytes ≡ old_bytes) (λ stack. stack_on_side New new_bytes ≡ Ok stack) → (fault ≢ of_box.OutOfMemory → box_in_by rule box_json ≡ Err fault)
+      → IsChanged old_bytes new_bytes changed → (fault ≢ of_box.OutOfMemory → box_in_by rule box_json ≡ Err fault)
       → fault_of_box fault ≢ OutOfMemory → diff_inputs_by rule old_bytes new_bytes box_json ≡ Err (fault_of_box fault)
   unfolding diff_inputs_by
   box-stops changed fault read new stops told = rw (read, new-stack old_bytes new_bytes old changed read new, stops (λ same. told (ap fault_of_box same))) refl
 
   pub inputs-read : (changed : Option (List LayerOf)) (sets : List SetOf) → stack_on_side Old old_bytes ≡ Ok old
-      → MatchOption changed (have_same_bytes old_bytes new_bytes ≡ true) (λ _. have_same_bytes old_bytes new_bytes ≡ false)
-      → MatchOption changed (new_bytes ≡ old_bytes) (λ stack. stack_on_side New new_bytes ≡ Ok stack) → box_in_by rule box_json ≡ Ok sets
+      → IsChanged old_bytes new_bytes changed → box_in_by rule box_json ≡ Ok sets
       → diff_inputs_by rule old_bytes new_bytes box_json
       ≡ Ok (record { stacks = stacks_seen old changed (packages_of old ++ packages_of (unwrap_or changed old)); sets = sets; rule = rule })
   unfolding diff_inputs_by
-  inputs-read changed sets read same new box =
+  inputs-read changed sets read new box =
       let packages = packages_of old ++ packages_of (unwrap_or changed old) in
       rw (read, new-stack old_bytes new_bytes old changed read new, box)
-      (ap (λ (stacks : StacksOf). Ok (record { stacks = stacks; sets = sets; rule = rule })) (both-stacks old changed packages (have_same_bytes old_bytes new_bytes) same))
+      (ap (λ (stacks : StacksOf). Ok (record { stacks = stacks; sets = sets; rule = rule })) (both-stacks old_bytes new_bytes old changed packages new))

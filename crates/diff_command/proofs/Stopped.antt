@@ -28,17 +28,26 @@ kept-one_of Allows contents old new fault meant printed told = printed.1
 
 -- ---- by what the command did
 
-pub carried-out : {X : Type 0} (Command : X → Result Status ToolFault → Type 0) (meant : Result X StopOf) (held : X) (done : Result Status ToolFault) (result : Result Status Stop)
+carried-out : {X : Type 0} (Command : X → Result Status ToolFault → Type 0) (meant : Result X StopOf) (held : X) (done : Result Status ToolFault) (result : Result Status Stop)
     → meant ≡ Ok held → Command held done → MatchResult done (λ status. result ≡ Ok status) (λ fault. result ≡ Err (Tool fault)) → CarriesOut Command meant result
 carried-out {X} Command meant held (Ok status) result is put same = subst (λ (r : Result Status Stop). CarriesOut Command meant r) (sym same) (held, is, put)
 carried-out {X} Command meant held (Err fault) result is put same =
     subst (λ (r : Result Status Stop). CarriesOut Command meant r) (sym same) (λ told. inr (held, fault, is, refl, put))
 
-pub kept-by-done : {W X : Type 0} (Allows : X → Output → Type 0) (contents : W → Option (List ℕ)) (old new : W) (meant : Result X ToolFault) (done : Result Status ToolFault) (result : Result Status Stop)
+kept-by-done : {W X : Type 0} (Allows : X → Output → Type 0) (contents : W → Option (List ℕ)) (old new : W) (meant : Result X ToolFault) (done : Result Status ToolFault) (result : Result Status Stop)
     → PrintsOneOf Allows contents old new done meant → MatchResult done (λ status. result ≡ Ok status) (λ fault. result ≡ Err (Tool fault)) → IsKept old new result
 kept-by-done Allows contents old new meant (Ok status) result printed same = subst (λ (r : Result Status Stop). IsKept old new r) (sym same) tt
 kept-by-done Allows contents old new meant (Err fault) result printed same =
     subst (λ (r : Result Status Stop). IsKept old new r) (sym same) (kept-one_of Allows contents old new fault meant printed)
+
+-- both
+pub answered : {W X Y : Type 0} (Allows : X → Y → Output → Type 0) (input : X → Y) (contents : W → Option (List ℕ)) (old new : W) (meant : Result X StopOf) (held : X) (done : Result Status ToolFault) (result : Result Status Stop)
+    → meant ≡ Ok held → PrintsOneOf (Allows held) contents old new done (Ok (input held)) → MatchResult done (λ status. result ≡ Ok status) (λ fault. result ≡ Err (Tool fault))
+    → CarriesOut (λ read done. PrintsOneOf (Allows read) contents old new done (Ok (input read))) meant result × IsKept old new result
+answered {W} {X} Allows input contents old new meant held done result is printed same = (
+  carried-out (λ (read : X) (done : Result Status ToolFault). PrintsOneOf (Allows read) contents old new done (Ok (input read))) meant held done result is printed same,
+  kept-by-done (Allows held) contents old new (Ok (input held)) done result printed same,
+)
 
 -- nothing was written
 pub kept-still : {W : Type 0} (writer : W) (result : Result Status Stop) → IsKept writer writer result

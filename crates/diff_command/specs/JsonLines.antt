@@ -19,61 +19,71 @@ use Rattle.diff_command.specs.Telling.{ToldOf, RemovedTold, AddedTold, SameTold,
 abbrev pub name_json : List PackageNameOf → PairOf → List ℕ
 name_json packages pair = compact_text (label_data packages pair.label)
 
--- `{"line":"KIND","name":NAME}`, where NAME is JSON
+-- how the line of a name begins: `{"line":"KIND","name":`
+abbrev pub begin_with : List ℕ → List ℕ
+begin_with kind = codes "{\"line\":\"" ++ kind ++ codes "\",\"name\":"
+
+-- `BEGIN NAME}`, where NAME is JSON
 unfoldable pub name_line : List ℕ → List ℕ → List ℕ
-name_line kind name = codes "{\"line\":\"" ++ kind ++ codes "\",\"name\":" ++ name ++ codes "}" ++ 10 ∷ []
+name_line begin name = begin ++ name ++ (codes "}" ++ 10 ∷ [])
 
--- `{"line":"KIND","name":NAME,"says":SAID}`, where NAME and SAID are JSON
+-- `BEGIN NAME,"says":SAID}`, where NAME and SAID are JSON
 unfoldable pub said_line : List ℕ → List ℕ → List ℕ → List ℕ
-said_line kind name said = codes "{\"line\":\"" ++ kind ++ codes "\",\"name\":" ++ name ++ codes ",\"says\":" ++ said ++ codes "}" ++ 10 ∷ []
+said_line begin name said = begin ++ name ++ codes ",\"says\":" ++ said ++ (codes "}" ++ 10 ∷ [])
 
--- the lines of a name: `removed`, `added`, or one of this kind for each JSON of what it says; none where it says the same
+-- the lines of a name: `removed`, `added`, or one that begins so for each JSON of what it says; none where it says the same
 unfoldable pub lines_of_name : List ℕ → List ℕ → ToldOf → List ℕ
-lines_of_name kind name RemovedTold = name_line (codes "removed") name
-lines_of_name kind name AddedTold = name_line (codes "added") name
-lines_of_name kind name SameTold = []
-lines_of_name kind name (ChangedTold blocks) = flat_map (said_line kind name) blocks
+lines_of_name begin name RemovedTold = name_line (begin_with (codes "removed")) name
+lines_of_name begin name AddedTold = name_line (begin_with (codes "added")) name
+lines_of_name begin name SameTold = []
+lines_of_name begin name (ChangedTold blocks) = flat_map (said_line begin name) blocks
 
 -- the same of a name, with what is told of it
 abbrev pub lines_of_pair : List ℕ → List ℕ × ToldOf → List ℕ
-lines_of_pair kind one = lines_of_name kind one.0 one.1
+lines_of_pair begin one = lines_of_name begin one.0 one.1
 
 unfoldable pub lines_of_names : List ℕ → List (List ℕ) → List ToldOf → List ℕ
-lines_of_names kind names told = flat_map (lines_of_pair kind) (zip names told)
+lines_of_names begin names told = flat_map (lines_of_pair begin) (zip names told)
 
 -- ---- counts
 
--- `{"line":"KIND","new":NEW,"old":OLD}`, unless both are 0
+-- `BEGIN NEW,"old":OLD}`, unless both are 0
 unfoldable pub counts_json : List ℕ → ℕ → ℕ → List ℕ
-counts_json kind old new =
-    if old + new == 0 then []
-    else codes "{\"line\":\"" ++ kind ++ codes "\",\"new\":" ++ decimal new ++ codes ",\"old\":" ++ decimal old ++ codes "}" ++ 10 ∷ []
+counts_json begin old new = if old + new == 0 then [] else begin ++ decimal new ++ codes ",\"old\":" ++ decimal old ++ codes "}" ++ 10 ∷ []
 
--- `{"count":COUNT,"line":"KIND"}`
-unfoldable pub count_json : List ℕ → ℕ → List ℕ
-count_json kind count = codes "{\"count\":" ++ decimal count ++ codes ",\"line\":\"" ++ kind ++ codes "\"}" ++ 10 ∷ []
+-- `{"count":COUNT END`
+unfoldable pub count_json : ℕ → List ℕ → List ℕ
+count_json count end = codes "{\"count\":" ++ decimal count ++ end
 
 -- the same, unless it is 0
-unfoldable pub count_json_unless_0 : List ℕ → ℕ → List ℕ
-count_json_unless_0 kind count = if count == 0 then [] else count_json kind count
+unfoldable pub count_json_unless_0 : ℕ → List ℕ → List ℕ
+count_json_unless_0 count end = if count == 0 then [] else count_json count end
+
+-- how the line of a count ends: `,"line":"KIND"}`
+abbrev pub end_with : List ℕ → List ℕ
+end_with kind = codes ",\"line\":\"" ++ kind ++ codes "\"}" ++ 10 ∷ []
+
+-- how that of the counts of two stacks begins: `{"line":"KIND","new":`
+abbrev pub begin_counts : List ℕ → List ℕ
+begin_counts kind = codes "{\"line\":\"" ++ kind ++ codes "\",\"new\":"
 
 -- ---- all lines
 
 -- of two stacks, as `diff` prints them
 unfoldable pub diff_json : LocaleRule → StacksOf → List PairOf → List ToldOf → List ℕ
 diff_json rule stacks pairs told =
-    lines_of_names (codes "changed") (map (name_json stacks.packages) pairs) told
-    ++ counts_json (codes "shared-names") (length (shared_ids stacks.old)) (length (shared_ids stacks.new))
-    ++ counts_json (codes "set-aside") (rows_set_aside rule stacks.old) (rows_set_aside rule stacks.new)
-    ++ count_json (codes "same") (same_count told)
+    lines_of_names (begin_with (codes "changed")) (map (name_json stacks.packages) pairs) told
+    ++ counts_json (begin_counts (codes "shared-names")) (length (shared_ids stacks.old)) (length (shared_ids stacks.new))
+    ++ counts_json (begin_counts (codes "set-aside")) (rows_set_aside rule stacks.old) (rows_set_aside rule stacks.new)
+    ++ count_json (same_count told) (end_with (codes "same"))
 
 -- of one stack, as `values` prints them
 unfoldable pub values_json : LocaleRule → StacksOf → List PairOf → List ToldOf → List ℕ
 values_json rule stacks pairs told =
-    lines_of_names (codes "value") (map (name_json stacks.packages) pairs) told
-    ++ count_json_unless_0 (codes "shared-names") (length (shared_ids stacks.new))
-    ++ count_json_unless_0 (codes "set-aside") (rows_set_aside rule stacks.new)
-    ++ count_json (codes "resources") (length pairs)
+    lines_of_names (begin_with (codes "value")) (map (name_json stacks.packages) pairs) told
+    ++ count_json_unless_0 (length (shared_ids stacks.new)) (end_with (codes "shared-names"))
+    ++ count_json_unless_0 (rows_set_aside rule stacks.new) (end_with (codes "set-aside"))
+    ++ count_json (length pairs) (end_with (codes "resources"))
 
 -- where there are more nodes than the limit
 abbrev pub node_limit_json : List ℕ

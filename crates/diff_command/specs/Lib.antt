@@ -1,6 +1,8 @@
 pub mod DiffInputs
+pub mod OpensChanged
 pub mod Telling
 pub mod Judged
+pub mod StackCounts
 pub mod DiffLines
 pub mod DiffOutput
 pub mod OpenedSeen

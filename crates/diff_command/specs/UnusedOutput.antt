@@ -2,6 +2,7 @@
 use Rattle.std.specs.Prelude.{ℕ, ◌+◌, ◌*◌, List, [], ◌∷◌, ◌++◌, fold, length, Option, Some, None, codes, nat_lt}
 use Rattle.std.specs.Fmt.{decimal}
 use Rattle.std.specs.List.{enumerate_from, flat_map, zip}
+use Rattle.std.specs.Option.{option_map_or}
 use Rattle.answer_notation.specs.Naming.{NamingOf, id_notation}
 use Rattle.answer_notation.specs.TableNotation.{alone, row_end_notation}
 use Rattle.answer_text.specs.LayerText.{layer_text}
@@ -31,18 +32,22 @@ used_rows (layer, uses) = zip (rows_of layer.table) uses
 
 -- ---- lines
 
--- `WORD layer L NAME CONFIG VALUE`, and the lines of a bag
+-- `WORD layer L NAME CONFIG VALUE`, where the word has a space behind it, and the lines of a bag
 unfoldable pub row_line : NamingOf → ℕ → List ℕ → RowOf → List ℕ
 row_line naming place word row =
-    word ++ codes " " ++ layer_text place ++ codes " " ++ id_notation naming row.id ++ codes " " ++ row_end_notation naming (codes "  ") row
+    word ++ layer_text place ++ codes " " ++ id_notation naming row.id ++ codes " " ++ row_end_notation naming (codes "  ") row
 
--- that of a row, unless it is loaded or not asked for
+-- the word for what becomes of a row, and a space; none where it is loaded or not asked for
+abbrev pub word_of : Option RowUse → Option (List ℕ)
+word_of (Some Overlaid) = Some (codes "overlaid ")
+word_of (Some Unused) = Some (codes "unused ")
+word_of (Some Unmapped) = Some (codes "unmapped ")
+word_of (Some Loaded) = None
+word_of None = None
+
+-- the line of a row that has such a word
 unfoldable pub use_line : NamingOf → ℕ → UsedRow → List ℕ
-use_line naming place (row, Some Overlaid) = row_line naming place (codes "overlaid") row
-use_line naming place (row, Some Unused) = row_line naming place (codes "unused") row
-use_line naming place (row, Some Unmapped) = row_line naming place (codes "unmapped") row
-use_line naming place (row, Some Loaded) = []
-use_line naming place (row, None) = []
+use_line naming place (row, row_use) = option_map_or (λ word. row_line naming place word row) (word_of row_use) []
 
 -- those of a layer, by the names of its own table
 abbrev pub layer_lines : ℕ × (LayerOf × Uses) → List ℕ

@@ -14,7 +14,6 @@ ghost use Rattle.diff_command.specs.Judged.{told_of};
 ghost use Rattle.diff_command.specs.OpenedSeen.{named_diff};
 ghost use Rattle.command_base.specs.CarriesOut.{IsKept};
 
-use crate::answered::status_or_stop;
 use crate::asked_pairs::asked_pairs;
 use crate::json_lines::{names_json, write_diff_json};
 use crate::judged::tell_all;
@@ -23,7 +22,7 @@ use crate::opened::{NamedDiff, OpenedDiff};
 use crate::told::Told;
 use command_base::{
     Inputs, LayerFiles, LocaleRule, NamedSet, Progress, Side, Status, Stop, ToolFault, asked_sets,
-    asked_words, file_bytes,
+    asked_words, file_bytes, status_or_stop,
 };
 use resource_text::LineForm;
 use stack_diff::{NamePair, Stacks};
@@ -82,8 +81,8 @@ impl<'a> Diff<'a> {
         progress: &mut P,
         out: &mut W,
     ) -> Result<Status, Stop<'static>>
-        ensures answers { DiffsFiles W.contents out.old out.new self.now (Ok (diff_held files.now)) result }
-        ensures unwritten { IsKept out.old out.new result }
+        ensures { DiffsFiles W.contents out.old out.new self.now (Ok (diff_held files.now)) result
+            × IsKept out.old out.new result }
     {
         let sets = asked_sets(alloc, &files.words)?;
         let opened = OpenedDiff::of_files(alloc, files, self.locales)?;
@@ -160,9 +159,9 @@ impl<'o, 'a> NamedDiff<'o, 'a> {
         progress: &mut P,
         out: &mut W,
     ) -> Result<Status, Stop<'static>>
-        ensures answers { DiffsOpened W.contents out.old out.new asked.now.form asked.now.max_nodes
-            (asked_of (named_diff self.now) (map named_set_of sets.now)) result }
-        ensures unwritten { IsKept out.old out.new result }
+        ensures { DiffsOpened W.contents out.old out.new asked.now.form asked.now.max_nodes
+            (asked_of (named_diff self.now) (map named_set_of sets.now)) result
+            × IsKept out.old out.new result }
     {
         let pairs = asked_pairs(alloc, self.stacks(), sets)?;
         let (form, most) = (asked.form, asked.max_nodes);

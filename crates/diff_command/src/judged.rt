@@ -1,6 +1,6 @@
 //! What becomes of labels, one after the other.
 
-ghost use Rattle.std.specs.Prelude.{map, option_map, IfOk, OnOk};
+ghost use Rattle.std.specs.Prelude.{map, option_map, IfOk};
 ghost use Rattle.stack_diff.specs.names.Pairs.{pair_of};
 ghost use Rattle.stack_diff.specs.names.declared.pair.Sides.TheVariants as of_sides;
 ghost use Rattle.stack_diff.specs.Stacks.{stacks_of};
@@ -61,12 +61,18 @@ fn judge<'a>(
     kept: &mut BTreeMap<(u32, u32), Judged>,
 ) -> Result<Option<Judged>, AllocError>
     requires { IsKept form (stacks_of stacks) members.now kept.old }
-    ensures judged { IfOk result (IsJudged form (stacks_of stacks.entry) members.now sides most) }
-    ensures kept { OnOk result (IsKept form (stacks_of stacks.entry) members.now kept.new) }
+    ensures { IfOk result (λ judged. IsJudged form (stacks_of stacks.entry) members.now sides most judged
+        × IsKept form (stacks_of stacks.entry) members.now kept.new) }
 {
     match sides {
-        Sides::Removed { .. } => Ok(Some(Judged::at_once(Told::Removed))),
-        Sides::Added { .. } => Ok(Some(Judged::at_once(Told::Added))),
+        Sides::Removed { .. } => Ok(Some(Judged {
+            told: Told::Removed,
+            nodes: 0,
+        })),
+        Sides::Added { .. } => Ok(Some(Judged {
+            told: Told::Added,
+            nodes: 0,
+        })),
         Sides::Both { old, new } => {
             if let Some(judged) = kept.get(&(old.0, new.0)) {
                 return judged.within(most);
@@ -109,18 +115,9 @@ impl Judged {
     ghost use Rattle.std.specs.Prelude.{List};
     ghost use Rattle.diff_command.specs.Judged.{told_of, IsRight, IsJudged};
 
-    // Without a tree.
-    fn at_once(told: Told) -> Judged
-        ensures told { result.told ≡ told }
-        ensures nodes { result.nodes ≡ 0 }
-    {
-        Judged { told, nodes: 0 }
-    }
-
     // The same of another label that stands for the same ids.
     fn shared(&self) -> Result<Judged, AllocError>
-        ensures told { IfOk result (λ judged. told_of judged.told ≡ told_of self.now.told) }
-        ensures nodes { IfOk result (λ judged. judged.nodes ≡ self.now.nodes) }
+        ensures { IfOk result (λ judged. (told_of judged.told ≡ told_of self.now.told) × (judged.nodes ≡ self.now.nodes)) }
     {
         Ok(Judged {
             told: self.told.shared()?,

@@ -46,13 +46,13 @@
 //! ```
 #![tactic(auto)]
 
-mod answered;
 mod asked_pairs;
 mod diff;
 mod json_lines;
 mod judged;
 mod lines;
 mod opened;
+mod stack_counts;
 mod told;
 mod unused;
 mod unused_rows;

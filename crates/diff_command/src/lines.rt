@@ -1,27 +1,26 @@
 //! What two stacks say differently, written.
 
-ghost use Rattle.std.specs.Prelude.{◌≡◌, length, map, Ok};
+ghost use Rattle.std.specs.Prelude.{◌≡◌, ◌++◌, ◌∷◌, [], codes, map, Ok};
+ghost use Rattle.std.specs.Fmt.{decimal};
 ghost use Rattle.std.specs.List.{flat_map};
 ghost use Rattle.contract_words.specs.Writes.{Writes};
 ghost use Rattle.command_base.specs.Output.{Prints};
 ghost use Rattle.command_base.specs.declared.status.Status.TheVariants.{Negative};
 ghost use Rattle.stack_diff.specs.names.Label.{label_of};
 ghost use Rattle.stack_diff.specs.names.Pairs.{pair_of};
-ghost use Rattle.stack_diff.specs.names.Shared.{shared_ids};
 ghost use Rattle.stack_diff.specs.Stacks.{stacks_of};
 ghost use Rattle.diff_command.specs.Judged.{told_of};
-ghost use Rattle.diff_command.specs.NameLines.{same_line};
 ghost use Rattle.diff_command.specs.DiffOutput.{node_limit_line};
-ghost use Rattle.diff_command.specs.DiffLines.{block_lines, told_lines, label_lines, says_same, same_count, some_differ, counts_line, shared_names_line, set_aside_line, diff_lines};
+ghost use Rattle.diff_command.specs.DiffLines.{block_lines, told_lines, label_lines, says_same, same_count, some_differ, counts_line, diff_lines};
 
+use crate::stack_counts::StackCounts;
 use crate::told::Told;
-use command_base::{LocaleRule, Status, ToolFault, rows_set_aside};
+use command_base::{LocaleRule, Status, ToolFault};
 use resource_text::LineForm;
-use stack_diff::{Label, NamePair, NamedStack, PackageNames, Stacks};
+use stack_diff::{Label, NamePair, PackageNames, Stacks};
 use std::io::{self, Write};
 
 /// Writes the lines of labels, of which this is told, and those of the stacks.
-#[tactic(auto, unfolding(crate::specs::DiffLines::diff_lines))]
 pub(crate) fn write_lines<W: Write + Drop>(
     rule: LocaleRule,
     stacks: Stacks<'_, '_>,
@@ -31,10 +30,17 @@ pub(crate) fn write_lines<W: Write + Drop>(
 ) -> io::Result<()>
     ensures { Writes W.contents out.old out.new result (diff_lines rule (stacks_of stacks.entry) (map pair_of pairs.now) (map told_of told.now)) }
 {
+    let old = StackCounts::of(stacks.old_stack(), rule);
+    let new = StackCounts::of(stacks.new_stack(), rule);
     write_labels(b"changed ", stacks.packages(), pairs, told, out)?;
-    write_shared_names(stacks, out)?;
-    write_set_aside(rule, stacks, out)?;
-    write_same(same_count(told), out)
+    write_counts(
+        b"warning shared-names",
+        old.shared_names,
+        new.shared_names,
+        out,
+    )?;
+    write_counts(b"set-aside", old.set_aside, new.set_aside, out)?;
+    write_count(b"same", same_count(told) as u128, out)
 }
 
 // ---- labels
@@ -50,7 +56,10 @@ pub(crate) fn write_labels<W: Write + Drop>(
 ) -> io::Result<()>
     ensures { Writes W.contents out.old out.new result (label_lines before.now packages.now (map pair_of pairs.now) (map told_of told.now)) }
 {
-    for (pair, one) in pairs.iter().zip(told) {
+    for (place, pair) in pairs.iter().enumerate() {
+        let Some(one) = told.get(place) else {
+            return Ok(());
+        };
         write_told(before, packages, &pair.label, one, out)?;
     }
     Ok(())
@@ -105,39 +114,7 @@ fn write_block<W: Write + Drop>(
     out.write_all(block)
 }
 
-// ---- stacks
-
-#[tactic(auto, unfolding(crate::specs::DiffLines::shared_names_line))]
-fn write_shared_names<W: Write + Drop>(stacks: Stacks<'_, '_>, out: &mut W) -> io::Result<()>
-    ensures { Writes W.contents out.old out.new result (shared_names_line (stacks_of stacks.entry)) }
-{
-    let old = shared_count(stacks.old_stack());
-    let new = shared_count(stacks.new_stack());
-    write_counts(b"warning shared-names", old as u128, new as u128, out)
-}
-
-/// How many ids of a stack have a name that stands for another id.
-pub(crate) fn shared_count(stack: &NamedStack<'_, '_>) -> usize
-    ensures { result ≡ length (shared_ids stack.now) }
-{
-    match stack.shared_names() {
-        Some(shared) => shared.count,
-        None => 0,
-    }
-}
-
-#[tactic(auto, unfolding(crate::specs::DiffLines::set_aside_line))]
-fn write_set_aside<W: Write + Drop>(
-    rule: LocaleRule,
-    stacks: Stacks<'_, '_>,
-    out: &mut W,
-) -> io::Result<()>
-    ensures { Writes W.contents out.old out.new result (set_aside_line rule (stacks_of stacks.entry)) }
-{
-    let old = rows_set_aside(stacks.old_stack().stack(), rule);
-    let new = rows_set_aside(stacks.new_stack().stack(), rule);
-    write_counts(b"set-aside", old, new, out)
-}
+// ---- counts
 
 // Writes a count of either stack, if one of them is not 0.
 #[tactic(auto, unfolding(crate::specs::DiffLines::counts_line))]
@@ -149,6 +126,14 @@ fn write_counts<W: Write + Drop>(words: &[u8], old: u128, new: u128, out: &mut W
     }
     out.write_all(words)?;
     writeln!(out, " {old} {new}")
+}
+
+/// Writes a count, behind words.
+pub(crate) fn write_count<W: Write + Drop>(words: &[u8], count: u128, out: &mut W) -> io::Result<()>
+    ensures { Writes W.contents out.old out.new result (words.now ++ codes " " ++ decimal count ++ 10 ∷ []) }
+{
+    out.write_all(words)?;
+    writeln!(out, " {count}")
 }
 
 // ---- labels that say the same
@@ -164,14 +149,6 @@ pub(crate) fn same_count(told: &[Told]) -> usize
         }
     }
     count
-}
-
-// Writes the line that says how many there are.
-#[tactic(auto, unfolding(crate::specs::NameLines::same_line))]
-fn write_same<W: Write + Drop>(count: usize, out: &mut W) -> io::Result<()>
-    ensures { Writes W.contents out.old out.new result (same_line count) }
-{
-    writeln!(out, "same {count}")
 }
 
 /// Whether some label says something else, or stands in one stack alone.

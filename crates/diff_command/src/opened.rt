@@ -1,13 +1,12 @@
 //! What a comparison is asked of: two stacks and a box, opened from their bytes.
 
-ghost use Rattle.std.specs.Prelude.{◌≡◌, ◌≢◌, true, false, map, Ok, Err, IfOk, IfErr, MatchOption};
+ghost use Rattle.std.specs.Prelude.{◌≡◌, map, IfOk};
 ghost use Rattle.contract_words.specs.Exact.{GivesOr};
 ghost use Rattle.command_base.specs.declared.fault.ToolFault.TheVariants.{OutOfMemory};
 ghost use Rattle.command_base.specs.Output.{IsOfInput};
-ghost use Rattle.command_base.specs.StackBytes.{stack_on_side};
 ghost use Rattle.command_base.specs.StackBytesSeen.{layer_bytes};
-ghost use Rattle.command_base.specs.declared.side.Side.TheVariants.{New};
 ghost use Rattle.diff_command.specs.DiffInputs.{have_same_bytes, diff_inputs_by};
+ghost use Rattle.diff_command.specs.OpensChanged.{OpensChanged};
 
 use command_base::{LayerParts, LocaleRule, Side, ToolFault, open_side};
 use stack_diff::{ConfigBox, NamedStack, PackageNames, Stack, Stacks};
@@ -111,10 +110,7 @@ fn open_changed<'a>(
     old: &[LayerParts<&'a [u8]>],
     new: &[LayerParts<&'a [u8]>],
 ) -> Result<Option<Stack<'a>>, ToolFault>
-    ensures same { IfOk result (λ changed. MatchOption changed (have_same_bytes (map layer_bytes old.now) (map layer_bytes new.now) ≡ true) (λ stack. have_same_bytes (map layer_bytes old.now) (map layer_bytes new.now) ≡ false)) }
-    ensures read { IfOk result (λ changed. MatchOption changed (map layer_bytes new.now ≡ map layer_bytes old.now) (λ stack. stack_on_side New (map layer_bytes new.now) ≡ Ok stack)) }
-    ensures fault { IfErr result (λ fault. fault ≢ OutOfMemory → stack_on_side New (map layer_bytes new.now) ≡ Err fault) }
-    ensures of_input { IsOfInput result }
+    ensures { OpensChanged (map layer_bytes old.now) (map layer_bytes new.now) result }
 {
     if have_same_bytes(old, new) {
         return Ok(None);

@@ -1,9 +1,8 @@
 //! The command `unused`.
 
-ghost use Rattle.std.specs.Prelude.{◌≡◌, ◌++◌, ◌∷◌, [], codes, map, option_map, Some, Ok, IfSome};
+ghost use Rattle.std.specs.Prelude.{map, option_map, Some, Ok, IfSome};
 ghost use Rattle.command_base.specs.CarriesOut.{IsKept};
 ghost use Rattle.command_base.specs.Output.{Prints, PrintsOneOf};
-ghost use Rattle.command_base.specs.declared.status.Status.TheVariants.{Negative};
 ghost use Rattle.command_base.specs.declared.fault.ToolFault.TheVariants.{OutOfMemory, Write};
 ghost use Rattle.stack_diff.specs.names.NameFault.{GivesNamed};
 ghost use Rattle.stack_diff.specs.names.NamedSet.{named_set_of};
@@ -11,11 +10,14 @@ ghost use Rattle.diff_command.specs.Unused.{IsUnusedOutput, TellsUnused, TellsUn
 ghost use Rattle.diff_command.specs.UnusedOutput.{unused_output};
 ghost use Rattle.diff_command.specs.Values.{opened_values, values_held};
 
-use crate::answered::status_or_stop;
+use crate::lines::print_node_limit;
 use crate::unused_rows::push_layers;
 use crate::values::{OpenedValues, ValuesFiles};
-use command_base::{Inputs, LocaleRule, NamedSet, Status, Stop, ToolFault, asked_sets};
+use command_base::{
+    Inputs, LocaleRule, NamedSet, Status, Stop, ToolFault, asked_sets, status_or_stop,
+};
 use names::{NameFault, ids_named};
+use resource_text::{Form, LineForm};
 use stack_diff::{ResId, RowUse, Stack, row_uses};
 use std::alloc::Global;
 use std::io::Write;
@@ -58,8 +60,8 @@ impl<'a> Unused<'a> {
         files: &ValuesFiles,
         out: &mut W,
     ) -> Result<Status, Stop<'static>>
-        ensures answers { TellsUnusedOf W.contents out.old out.new self.now (Ok (values_held files.now)) result }
-        ensures unwritten { IsKept out.old out.new result }
+        ensures { TellsUnusedOf W.contents out.old out.new self.now (Ok (values_held files.now)) result
+            × IsKept out.old out.new result }
     {
         let sets = asked_sets(alloc, &files.words)?;
         let opened = OpenedValues::read(alloc, files, self.locales)?;
@@ -104,15 +106,9 @@ fn tell_unused<W: Write + Drop>(
     )?;
     match uses {
         Some(uses) => print_unused(alloc, stack, &uses, out),
-        None => print_node_limit(out),
+        // Any form of text has this line.
+        None => print_node_limit(LineForm::Text(Form::Android), out),
     }
-}
-
-fn print_node_limit<W: Write + Drop>(out: &mut W) -> Result<Status, ToolFault>
-    ensures { Prints W.contents out.old out.new result (Ok (record { status = Negative; text = codes "node limit" ++ 10 ∷ [] })) }
-{
-    out.write_all(b"node limit\n")?;
-    Ok(Status::Negative)
 }
 
 fn print_unused<W: Write + Drop>(

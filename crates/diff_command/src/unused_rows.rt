@@ -1,6 +1,7 @@
 //! The rows that no device loads, written and counted.
 
-ghost use Rattle.std.specs.Prelude.{◌≡◌, ℕ, ◌+◌, ◌<◌, ◌*◌, ◌^◌, ◌++◌, fold, length, map, zip, OnOk, IfOk};
+ghost use Rattle.std.specs.Prelude.{◌≡◌, ℕ, ◌+◌, ◌<◌, ◌*◌, ◌^◌, ◌++◌, fold, length, map, option_map, zip, OnOk, IfOk};
+ghost use Rattle.std.specs.Io.KnownBytes.{Appends};
 ghost use Rattle.std.specs.List.{enumerate_from, flat_map};
 ghost use Rattle.contract_words.specs.Writes.{Writes};
 ghost use Rattle.answer_notation.specs.TableNotation.{alone};
@@ -9,7 +10,7 @@ ghost use Rattle.answer_text.specs.type_chunks.Row.{row_of};
 ghost use Rattle.res_value.specs.Cell.{cell_of};
 ghost use Rattle.res_value.specs.MapRows.{map_rows_of};
 ghost use Rattle.answer_text.specs.overlay_map.Layer.{LayerOf, by_itself};
-ghost use Rattle.diff_command.specs.UnusedOutput.{entry_size, layer_lines, row_line, totals_line, totals_of, use_line, used_rows, with_row};
+ghost use Rattle.diff_command.specs.UnusedOutput.{entry_size, layer_lines, totals_line, totals_of, use_line, used_rows, with_row, word_of};
 ghost use Rattle.diff_command.specs.UnusedTotals.{IsWithin};
 
 use answer_notation::{Naming, write_row_end};
@@ -109,9 +110,9 @@ pub(crate) fn push_layers(
     uses: &[Vec<Option<RowUse>>],
     text: &mut Vec<u8>,
 ) -> Result<Totals, AllocError>
-    ensures text { OnOk result (text.new.items ≡ text.old.items ++ flat_map layer_lines (enumerate_from 0 (zip stack.entry (map (λ of_layer. of_layer.items) uses.now)))) }
-    ensures totals { IfOk result (λ totals. totals ≡ totals_of stack.entry (map (λ of_layer. of_layer.items) uses.now)) }
-    ensures within { IfOk result (IsWithin (2 ^ 80)) }
+    ensures { IfOk result (λ totals. (text.new.items ≡ text.old.items ++ flat_map layer_lines (enumerate_from 0 (zip stack.entry (map (λ of_layer. of_layer.items) uses.now))))
+        × (totals ≡ totals_of stack.entry (map (λ of_layer. of_layer.items) uses.now))
+        × IsWithin (2 ^ 80) totals) }
 {
     let mut totals = Totals::new();
     let mut place = 0;
@@ -164,9 +165,9 @@ fn write_rows<W: Write + Drop>(
 ) -> io::Result<()>
     requires few { place < 64 }
     requires within { IsWithin (place * 2 ^ 64) totals.old }
-    ensures text { Writes W.contents out.old out.new result (flat_map (use_line naming.now place) (zip (rows_of table.now) uses.now)) }
-    ensures counted { OnOk result (totals.new ≡ fold with_row totals.old (zip (rows_of table.now) uses.now)) }
-    ensures within { OnOk result (IsWithin ((place + 1) * 2 ^ 64) totals.new) }
+    ensures { OnOk result (Appends (W.contents out.old) (W.contents out.new) (flat_map (use_line naming.now place) (zip (rows_of table.now) uses.now))
+        × (totals.new ≡ fold with_row totals.old (zip (rows_of table.now) uses.now))
+        × IsWithin ((place + 1) * 2 ^ 64) totals.new) }
 {
     let mut rows = table.all_rows();
     for row_use in uses {
@@ -179,8 +180,19 @@ fn write_rows<W: Write + Drop>(
     Ok(())
 }
 
-// Writes the line of a row, unless it is loaded or not asked for.
-#[tactic(auto, unfolding(crate::specs::UnusedOutput::use_line))]
+// The word for what becomes of a row, none where it is loaded or not asked for.
+fn word_of(row_use: Option<RowUse>) -> Option<&'static str>
+    ensures { option_map (λ word. word.now) result ≡ word_of row_use }
+{
+    match row_use {
+        Some(RowUse::Overlaid) => Some("overlaid "),
+        Some(RowUse::Unused) => Some("unused "),
+        Some(RowUse::Unmapped) => Some("unmapped "),
+        Some(RowUse::Loaded) | None => None,
+    }
+}
+
+// Writes the line of a row that has such a word.
 fn write_use<W: Write + Drop>(
     naming: &Naming<'_, '_, '_>,
     place: usize,
@@ -190,27 +202,10 @@ fn write_use<W: Write + Drop>(
 ) -> io::Result<()>
     ensures { Writes W.contents out.old out.new result (use_line naming.now place (row_of row.now, row_use)) }
 {
-    let word = match row_use {
-        Some(RowUse::Overlaid) => "overlaid",
-        Some(RowUse::Unused) => "unused",
-        Some(RowUse::Unmapped) => "unmapped",
-        Some(RowUse::Loaded) | None => return Ok(()),
+    let Some(word) = word_of(row_use) else {
+        return Ok(());
     };
-    write_row(naming, place, word, row, out)
-}
-
-#[tactic(auto, unfolding(crate::specs::UnusedOutput::row_line))]
-fn write_row<W: Write + Drop>(
-    naming: &Naming<'_, '_, '_>,
-    place: usize,
-    word: &str,
-    row: &Row<'_>,
-    out: &mut W,
-) -> io::Result<()>
-    ensures { Writes W.contents out.old out.new result (row_line naming.now place word.now (row_of row.now)) }
-{
     out.write_all(word.as_bytes())?;
-    out.write_all(b" ")?;
     write_layer(place, out)?;
     out.write_all(b" ")?;
     naming.write_id(row.id, out)?;

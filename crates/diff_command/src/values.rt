@@ -3,7 +3,7 @@
 ghost use Rattle.std.specs.Prelude.{◌≡◌, map, Some, Ok, IfOk, IfSome};
 ghost use Rattle.contract_words.specs.Exact.{GivesOr};
 ghost use Rattle.command_base.specs.CarriesOut.{IsKept};
-ghost use Rattle.command_base.specs.Output.{IsOfInput, Prints, PrintsOneOf};
+ghost use Rattle.command_base.specs.Output.{Prints, PrintsOneOf};
 ghost use Rattle.command_base.specs.Stop.{GivesOrStops};
 ghost use Rattle.command_base.specs.declared.fault.ToolFault.TheVariants.{OutOfMemory, Write};
 ghost use Rattle.stack_diff.specs.names.NamedIds.{packages_of};
@@ -15,7 +15,6 @@ ghost use Rattle.diff_command.specs.Judged.{told_of};
 ghost use Rattle.diff_command.specs.Values.{TellsValues, TellsValuesOf, ValuesOpened, alone, opened_values, values_files, values_held, values_inputs_by};
 ghost use Rattle.diff_command.specs.ValuesOutput.{values_output, IsValuesOutput};
 
-use crate::answered::status_or_stop;
 use crate::asked_pairs::asked_pairs;
 use crate::json_lines::{names_json, write_values_json};
 use crate::judged::tell_all;
@@ -24,7 +23,7 @@ use crate::told::Told;
 use crate::value_lines::write_value_lines;
 use command_base::{
     Inputs, LayerFiles, LocaleRule, NamedSet, Progress, Status, Stop, ToolFault, asked_sets,
-    asked_words, file_bytes, open_stack,
+    asked_words, file_bytes, open_stack, status_or_stop,
 };
 use resource_text::LineForm;
 use stack_diff::{ConfigBox, NamePair, NamedStack, PackageNames, Stack, Stacks};
@@ -74,8 +73,8 @@ impl<'a> Values<'a> {
         progress: &mut P,
         out: &mut W,
     ) -> Result<Status, Stop<'static>>
-        ensures answers { TellsValuesOf W.contents out.old out.new self.now (Ok (values_held files.now)) result }
-        ensures unwritten { IsKept out.old out.new result }
+        ensures { TellsValuesOf W.contents out.old out.new self.now (Ok (values_held files.now)) result
+            × IsKept out.old out.new result }
     {
         let sets = asked_sets(alloc, &files.words)?;
         let opened = OpenedValues::read(alloc, files, self.locales)?;
@@ -132,8 +131,7 @@ impl<'a> OpenedValues<'a> {
         files: &'a ValuesFiles,
         rule: LocaleRule,
     ) -> Result<OpenedValues<'a>, ToolFault>
-        ensures value { GivesOr OutOfMemory opened_values result (values_inputs_by rule (values_held files.now).layers (values_held files.now).box_json) }
-        ensures of_input { IsOfInput result }
+        ensures { GivesOr OutOfMemory opened_values result (values_inputs_by rule (values_held files.now).layers (values_held files.now).box_json) }
     {
         let layers = files.layers.layers(alloc)?;
         let stack = open_stack(alloc, &layers)?;
@@ -154,9 +152,9 @@ impl<'a> OpenedValues<'a> {
         progress: &mut P,
         out: &mut W,
     ) -> Result<Status, Stop<'static>>
-        ensures answers { ValuesOpened W.contents out.old out.new asked.now.form asked.now.max_nodes
-            (asked_of (opened_values self.now) (map named_set_of sets.now)) result }
-        ensures unwritten { IsKept out.old out.new result }
+        ensures { ValuesOpened W.contents out.old out.new asked.now.form asked.now.max_nodes
+            (asked_of (opened_values self.now) (map named_set_of sets.now)) result
+            × IsKept out.old out.new result }
     {
         let stack = NamedStack::of(alloc, &self.stack)?;
         let packages = packages_of(alloc, &self.stack)?;
@@ -175,9 +173,9 @@ impl<'a> OpenedValues<'a> {
         out: &mut W,
     ) -> Result<Status, Stop<'static>>
         requires { stacks_of stacks ≡ alone self.now.stack }
-        ensures answers { ValuesOpened W.contents out.old out.new asked.now.form asked.now.max_nodes
-            (asked_of (opened_values self.now) (map named_set_of sets.now)) result }
-        ensures unwritten { IsKept out.old out.new result }
+        ensures { ValuesOpened W.contents out.old out.new asked.now.form asked.now.max_nodes
+            (asked_of (opened_values self.now) (map named_set_of sets.now)) result
+            × IsKept out.old out.new result }
     {
         let pairs = asked_pairs(alloc, stacks, sets)?;
         let (form, most) = (asked.form, asked.max_nodes);

@@ -7,10 +7,9 @@ use Rattle.diff_command.specs.JsonLines.{counts_json}
 use Rattle.diff_command.proofs.json_lines.write_counts.Goals.{else-old-eq0-via-then-old-eq0+else-new-eq0, else-old-eq0-via-else-old-eq0}
 use Rattle.diff_command.proofs.json_lines.write_counts.Goals as goal
 
-counted : (kind : List ℕ) (old new : ℕ) → 0 < old + new
-    → counts_json kind old new ≡ codes "{\"line\":\"" ++ kind ++ codes "\",\"new\":" ++ decimal new ++ codes ",\"old\":" ++ decimal old ++ codes "}" ++ 10 ∷ []
+counted : (begin : List ℕ) (old new : ℕ) → 0 < old + new → counts_json begin old new ≡ begin ++ decimal new ++ codes ",\"old\":" ++ decimal old ++ codes "}" ++ 10 ∷ []
 unfolding counts_json
-counted kind old new some = let no : nat_eq (old + new) 0 ≡ false = grind (arith, nat_tests) in rw no refl
+counted begin old new some = let no : nat_eq (old + new) 0 ≡ false = grind (arith, nat_tests) in rw no refl
 
 pub returns : goal.returns
 returns g c =
@@ -20,6 +19,5 @@ returns g c =
       | else-old-eq0-via-else-old-eq0 w ↦ omega arith
     ]
     in
-    let to_kind = Appends-trans _ _ _ _ _ c.in_ok-write_all.ensures.bytes c.in_ok-write_all-2.ensures.bytes in
-    let whole = on_ok_weaker c.writeln.result (λ last. Appends-trans _ _ _ _ _ to_kind last) c.writeln.ensures.bytes in
-    rw (counted c.args.kind.now c.args.old c.args.new some) (simp append_assoc (simp append_assoc at whole))
+    let whole = on_ok_weaker c.writeln.result (λ last. Appends-trans _ _ _ _ _ c.in_ok-write_all.ensures.bytes last) c.writeln.ensures.bytes in
+    rw (counted c.args.begin.now c.args.old c.args.new some) (simp append_assoc whole)

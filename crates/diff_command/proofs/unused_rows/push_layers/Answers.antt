@@ -2,7 +2,7 @@ use Rattle.std.proofs.Common.{◌≡◌, ◌+◌, ◌<◌, ◌++◌, arith, ap, 
 use Rattle.std.specs.List.{zip}
 use Rattle.std.proofs.lemmas.List.{drop_all}
 use Rattle.diff_command.specs.UnusedOutput.{layer_lines, used_rows, with_row}
-use Rattle.diff_command.proofs.UsedRows.{both-next, found-layer, layer-counted, layers-counted, layers-end, seen-next, text-end, text-next, zip-none}
+use Rattle.diff_command.proofs.UsedRows.{both-next, found-layer, layer-counted, layers-counted, layers-end, seen-next, text-end, text-next, within-more, zip-none}
 use Rattle.diff_command.proofs.unused_rows.push_layers.Goals as goal
 
 pub loop-of_layer-preserved : goal.loop-of_layer-preserved
@@ -28,24 +28,17 @@ loop-of_layer-preserved c =
       within = c.in_ok-push_layer.ensures.within;
     }
 
-pub returns-clause-text : goal.returns-clause-text
-returns-clause-text c =
+pub returns : goal.returns
+returns c =
     let place = c.loop-of_layer.place in
-    let gone = ap (map (λ of_layer. of_layer.items)) (drop_all place c.args.uses.now (omega (arith, c.loop-of_layer.invariant.place, c.loop-of_layer-test.false))) in
-    text-end _ _ place _ (ap (zip (drop place c.args.stack)) gone ∙ zip-none (drop place c.args.stack)) c.loop-of_layer.invariant.text
+    let before = c.loop-of_layer.invariant in
+    let gone = ap (map (λ of_layer. of_layer.items)) (drop_all place c.args.uses.now (omega (arith, before.place, c.loop-of_layer-test.false))) in
+    let none = ap (zip (drop place c.args.stack)) gone ∙ zip-none (drop place c.args.stack) in
+    (text-end _ _ place _ none before.text, layers-counted _ _ _ none before.counted, within-more _ _ _ (omega (arith, before.few)) before.within)
 
-pub returns-clause-totals : goal.returns-clause-totals
-returns-clause-totals c =
+pub returns-in_default : goal.returns-in_default
+returns-in_default c =
     let place = c.loop-of_layer.place in
-    let gone = ap (map (λ of_layer. of_layer.items)) (drop_all place c.args.uses.now (omega (arith, c.loop-of_layer.invariant.place, c.loop-of_layer-test.false))) in
-    layers-counted _ _ _ (ap (zip (drop place c.args.stack)) gone ∙ zip-none (drop place c.args.stack)) c.loop-of_layer.invariant.counted
-
-pub returns-in_default-clause-text : goal.returns-in_default-clause-text
-returns-in_default-clause-text c =
     let before = c.loop-of_layer.invariant in
-    text-end _ _ c.loop-of_layer.place _ (layers-end c.args.stack _ c.loop-of_layer.place c.deref.result.now (c.deref.ensures.value ∙ before.apart) c.in_default.ensures.lookup.0) before.text
-
-pub returns-in_default-clause-totals : goal.returns-in_default-clause-totals
-returns-in_default-clause-totals c =
-    let before = c.loop-of_layer.invariant in
-    layers-counted _ _ _ (layers-end c.args.stack _ c.loop-of_layer.place c.deref.result.now (c.deref.ensures.value ∙ before.apart) c.in_default.ensures.lookup.0) before.counted
+    let none = layers-end c.args.stack _ place c.deref.result.now (c.deref.ensures.value ∙ before.apart) c.in_default.ensures.lookup.0 in
+    (text-end _ _ place _ none before.text, layers-counted _ _ _ none before.counted, within-more _ _ _ (omega (arith, before.few)) before.within)

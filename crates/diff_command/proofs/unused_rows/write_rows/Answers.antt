@@ -1,8 +1,8 @@
-use Rattle.std.proofs.Common.{arith, sym, ap, ◌∙◌, fold}
+use Rattle.std.proofs.Common.{List, arith, sym, ap, ◌∙◌, fold}
 use Rattle.contract_words.proofs.TextSteps.{PutsAllBut-next, PutsAllBut-done}
-use Rattle.answer_text.specs.type_chunks.Row.{row_of}
+use Rattle.answer_text.specs.type_chunks.Row.{RowOf, row_of}
 use Rattle.diff_command.specs.UnusedOutput.{with_row}
-use Rattle.diff_command.proofs.UsedRows.{counted-next, used-end, used-next, within-more}
+use Rattle.diff_command.proofs.UsedRows.{counted-next, left_used, used-end, used-next, within-more}
 use Rattle.diff_command.proofs.unused_rows.write_rows.Goals as goal
 
 pub loop-row_use-preserved : goal.loop-row_use-preserved
@@ -16,10 +16,20 @@ loop-row_use-preserved g c = record {
   within = within-more _ _ _ (omega arith) (c.add.ensures.within _ c.loop-row_use.invariant.within);
 }
 
-pub returns-clause-text : goal.returns-clause-text
-returns-clause-text g c =
-    PutsAllBut-done _ _ _ _ _ c.loop-row_use.invariant.texts (used-end c.loop-row_use.rows c.args.uses.now c.loop-row_use.row_use-index (omega (arith, c.loop-row_use-test.false)))
+pub returns-in_default : goal.returns-in_default
+returns-in_default g c =
+    let before = c.loop-row_use.invariant in
+    let none = ap (λ (rows : List RowOf). left_used rows c.args.uses.now c.loop-row_use.row_use-index) c.in_default.ensures.steps.0 in (
+      PutsAllBut-done _ _ _ _ _ before.texts none,
+      ap (fold with_row c.loop-row_use.totals) (sym none) ∙ before.counted,
+      within-more _ _ _ (omega arith) before.within,
+    )
 
-pub returns-clause-counted : goal.returns-clause-counted
-returns-clause-counted g c =
-    ap (fold with_row c.loop-row_use.totals) (sym (used-end c.loop-row_use.rows c.args.uses.now c.loop-row_use.row_use-index (omega (arith, c.loop-row_use-test.false)))) ∙ c.loop-row_use.invariant.counted
+pub returns : goal.returns
+returns g c =
+    let before = c.loop-row_use.invariant in
+    let none = used-end c.loop-row_use.rows c.args.uses.now c.loop-row_use.row_use-index (omega (arith, c.loop-row_use-test.false)) in (
+      PutsAllBut-done _ _ _ _ _ before.texts none,
+      ap (fold with_row c.loop-row_use.totals) (sym none) ∙ before.counted,
+      within-more _ _ _ (omega arith) before.within,
+    )

@@ -25,11 +25,11 @@ returns-clause-answers g c =
     rw (← c.deref.ensures.value) (
     read_then (λ read. TellsUnusedOf g.W.Write.contents c.args.out.now c.answer_of.new.out unused read c.answer_of.result)
     (g.I.Inputs.places c.args.inputs.now) (λ places. values_files places unused.layers.now unused.box_path.now (map (λ word. word.now) c.deref.result.now))
-    (values_held c.in_ok-files.files) c.in_ok-files.ensures c.answer_of.ensures.answers
+    (values_held c.in_ok-files.files) c.in_ok-files.ensures c.answer_of.ensures.0
     )
 
 pub returns-in_err-files-clause-unwritten : goal.returns-in_err-files-clause-unwritten
 returns-in_err-files-clause-unwritten g c = kept-still c.args.out.now c.from_residual.result
 
 pub returns-clause-unwritten : goal.returns-clause-unwritten
-returns-clause-unwritten g c = c.answer_of.ensures.unwritten
+returns-clause-unwritten g c = c.answer_of.ensures.1

@@ -7,38 +7,33 @@ use Rattle.diff_command.specs.AskedPairs.{asked_of}
 use Rattle.diff_command.specs.Diff.{opened_asked}
 use Rattle.diff_command.specs.Values.{opened_values, values_held, values_inputs_by}
 use Rattle.diff_command.proofs.Asked.{opened-with}
-use Rattle.diff_command.proofs.Stopped.{kept-still}
 use Rattle.diff_command.proofs.values.Values.answer_of.Goals as goal
 
-pub returns-in_err-opened-clause-answers : goal.returns-in_err-opened-clause-answers
+pub returns-in_err-opened : goal.returns-in_err-opened
 unfolding opened_asked
-returns-in_err-opened-clause-answers g c =
+returns-in_err-opened g c =
     let p = err_from_is_err_and c.from_residual-in_err-opened.result c.from_residual-in_err-opened.ensures.1 in
     let words = rw c.deref.ensures.value at c.in_ok-sets.ensures in
-    rw (p.1, p.2) (λ told. inl (rw (words, c.in_err-opened.ensures.value (λ same. told (ap tool same))) refl))
+    rw (p.1, p.2) (λ told. inl (rw (words, c.in_err-opened.ensures (λ same. told (ap tool same))) refl), λ told. refl)
 
-pub returns-clause-answers : goal.returns-clause-answers
-returns-clause-answers g c =
+pub returns : goal.returns
+returns g c =
     let held = values_held c.args.files.now in
     let opened = opened_values c.in_ok-opened.opened in
     let read = values_inputs_by c.args.self.now.locales held.layers held.box_json in
     let words = rw c.deref.ensures.value at c.in_ok-sets.ensures in
     let meant : opened_asked held.words read ≡ asked_of opened (map named_set_of c.deref-2.result.now) =
-    opened-with held.words (sets_held c.in_ok-sets.sets) read opened words c.in_ok-opened.ensures.value ∙ ap (λ sets. asked_of opened (map named_set_of sets)) (sym c.deref-2.ensures.value) in
-    rw meant c.values_asked.ensures.answers
+    opened-with held.words (sets_held c.in_ok-sets.sets) read opened words c.in_ok-opened.ensures ∙ ap (λ sets. asked_of opened (map named_set_of sets)) (sym c.deref-2.ensures.value) in (
+      rw meant c.values_asked.ensures.0,
+      c.values_asked.ensures.1,
+    )
 
-pub returns-in_err-sets-clause-answers : goal.returns-in_err-sets-clause-answers
+pub returns-in_err-sets : goal.returns-in_err-sets
 unfolding opened_asked
-returns-in_err-sets-clause-answers g c =
+returns-in_err-sets g c =
     let p = err_from_is_err_and c.from_residual.result c.from_residual.ensures.1 in
-    rw (p.1, p.2) (λ told.
-    let stopped = rw c.deref.ensures.value at (c.in_err-sets.ensures told) in inl (rw stopped refl))
-
-pub returns-in_err-sets-clause-unwritten : goal.returns-in_err-sets-clause-unwritten
-returns-in_err-sets-clause-unwritten g c = kept-still c.args.out.now c.from_residual.result
-
-pub returns-in_err-opened-clause-unwritten : goal.returns-in_err-opened-clause-unwritten
-returns-in_err-opened-clause-unwritten g c = kept-still c.args.out.now c.from_residual-in_err-opened.result
-
-pub returns-clause-unwritten : goal.returns-clause-unwritten
-returns-clause-unwritten g c = c.values_asked.ensures.unwritten
+    rw (p.1, p.2) (
+      λ told.
+          let stopped = rw c.deref.ensures.value at (c.in_err-sets.ensures told) in inl (rw stopped refl),
+      λ told. refl,
+    )
