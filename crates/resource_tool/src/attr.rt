@@ -13,7 +13,6 @@ ghost use Rattle.resource_tool.specs.OpenedSeen.{opened_of};
 ghost use Rattle.resource_tool.specs.AttrOutput.{attribute_line, attr_answer, attr_in_notation, attr_output, attr_seen, attr_opened, PrintsAttr, PrintsAttrFiles};
 ghost use Rattle.command_base.specs.CarriesOut.{IsKept};
 
-use crate::answered::status_or_stop;
 use crate::end_status::status_of_end;
 use crate::no_bag::print_no_bag;
 use crate::opened::Opened;
@@ -22,7 +21,7 @@ use answer_notation::{Naming, attr_text};
 use answer_text::{NamesBeside, write_end_with_name, write_id};
 use command_base::{
     AskedFiles, DeviceText, End, Inputs, LayerFiles, LayerParts, LocaleRule, Named, ResId, Status,
-    Stop, Theme, ToolFault, asked_sets,
+    Stop, Theme, ToolFault, asked_sets, status_or_stop,
 };
 use names::{id_named, ids_named};
 use std::alloc::Global;

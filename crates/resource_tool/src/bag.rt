@@ -12,7 +12,6 @@ ghost use Rattle.resource_tool.specs.OpenedSeen.{opened_of};
 ghost use Rattle.resource_tool.specs.BagOutput.{id_and_layer, bag_row_line, bag_answer, bag_in_notation, bag_output, PrintsBag, PrintsBagFiles};
 ghost use Rattle.command_base.specs.CarriesOut.{IsKept};
 
-use crate::answered::status_or_stop;
 use crate::no_bag::print_no_bag;
 use crate::opened::{OpenId, Opened};
 use crate::text::print_text;
@@ -20,6 +19,7 @@ use answer_notation::{Naming, bag_text};
 use answer_text::{NamesBeside, bag, write_id, write_layer, write_value};
 use command_base::{
     BagRow, DeviceFiles, Inputs, LayerParts, LocaleRule, Named, ResId, Status, Stop, ToolFault,
+    status_or_stop,
 };
 use std::alloc::{AllocError, Global};
 use std::io::{self, Write};

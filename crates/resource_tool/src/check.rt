@@ -15,13 +15,12 @@ ghost use Rattle.resource_tool.specs.CheckHeadline.{HeadlineHolds};
 ghost use Rattle.resource_tool.specs.OpenedSeen.{opened_cert};
 ghost use Rattle.command_base.specs.CarriesOut.{IsKept};
 
-use crate::answered::status_or_stop;
 use crate::box_files::BoxFiles;
 use crate::verdict_told::write_verdict;
 use cert_checker::check;
 use command_base::{
     Inputs, LayerFiles, LayerParts, LocaleRule, Stack, Status, Stop, ToolFault, asked_goals,
-    asked_words, file_bytes, open_stack,
+    asked_words, file_bytes, open_stack, status_or_stop,
 };
 use names::first_goals;
 use resource_text::{Cert, ConfigBox, Goal, Verdict};

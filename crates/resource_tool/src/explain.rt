@@ -11,7 +11,6 @@ ghost use Rattle.resource_tool.specs.OpenedSeen.{opened_of};
 ghost use Rattle.resource_tool.specs.ExplainOutput.{explain_answer, explain_in_notation, explain_output, Explains, ExplainsFiles};
 ghost use Rattle.command_base.specs.CarriesOut.{IsKept};
 
-use crate::answered::status_or_stop;
 use crate::end_status::status_of_end;
 use crate::opened::{OpenId, Opened};
 use crate::text::print_text;
@@ -19,6 +18,7 @@ use answer_notation::{Naming, explain_text};
 use answer_text::{NamesBeside, explain, resolve};
 use command_base::{
     DeviceFiles, Inputs, LayerParts, LocaleRule, Named, ResId, Status, Stop, ToolFault,
+    status_or_stop,
 };
 use std::alloc::{AllocError, Global};
 use std::io::Write;

@@ -11,10 +11,10 @@ ghost use Rattle.command_base.specs.declared.fault.ToolFault.TheVariants.{Write}
 ghost use Rattle.resource_tool.specs.TableOutput.{ListsIds, id_line, ids_output, ids_text, listed_ids};
 ghost use Rattle.command_base.specs.CarriesOut.{IsKept};
 
-use crate::answered::status_or_stop;
 use answer_text::{write_id, write_its_name};
 use command_base::{
     Inputs, LayerFiles, LayerParts, ResId, Stack, Status, Stop, ToolFault, open_stack,
+    status_or_stop,
 };
 use names::{StackNames, ids_of_type};
 use std::alloc::{AllocError, Global};

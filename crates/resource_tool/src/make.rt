@@ -22,7 +22,7 @@ ghost use Rattle.resource_tool.specs.LineReadsBack.{LineReadsBack, TreesReadBack
 ghost use Rattle.resource_tool.specs.OpenedSeen.{opened_box};
 ghost use Rattle.command_base.specs.CarriesOut.{IsKept};
 
-use crate::answered::{Answered, status_or_stop};
+use crate::answered::Answered;
 use crate::box_files::GoalFiles;
 use crate::goal_told::write_goal_told;
 use crate::opened_box::OpenedBox;
@@ -31,7 +31,7 @@ use answer_text::NamesBeside;
 use cert_maker::make_watched;
 use command_base::{
     Device, End, Inputs, LayerParts, LocaleRule, Stack, Status, Stop, ToolFault, asked_goals,
-    open_stack,
+    open_stack, status_or_stop,
 };
 use names::first_goals;
 use resource_text::{Cert, ConfigBox, Goal, Made, Omitting, Progress, Unwatched, device_with_end};

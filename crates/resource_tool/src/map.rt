@@ -8,10 +8,10 @@ ghost use Rattle.command_base.specs.MapText.{MadeMapReadsBack, ReadsBack};
 ghost use Rattle.resource_tool.specs.MapOutput.{PrintsBoth, PrintsMap, map_files, map_held, overlay_held, map_output, output_of_map};
 ghost use Rattle.command_base.specs.CarriesOut.{IsKept};
 
-use crate::answered::status_or_stop;
 use answer_text::write_on_line;
 use command_base::{
     Inputs, MadeMap, Status, Stop, Table, TableFile, ToolFault, layer_table_file, open_table,
+    status_or_stop,
 };
 use std::alloc::Global;
 use std::io::Write;

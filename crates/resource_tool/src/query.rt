@@ -19,14 +19,13 @@ ghost use Rattle.resource_tool.specs.OpenedSeen.{opened_of};
 ghost use Rattle.resource_tool.specs.QueryOutput.{end_for, is_unresolved_for, line_of, query_status, query_text, query_answer, query_notation, query_output, query_seen, query_opened, Queries, QueriesFiles};
 ghost use Rattle.command_base.specs.CarriesOut.{IsKept};
 
-use crate::answered::status_or_stop;
 use crate::end_status::is_unresolved;
 use crate::opened::Opened;
 use answer_notation::{Naming, ends_text};
 use answer_text::{NamesBeside, query_line, resolve, set_aside_line};
 use command_base::{
     AskedFiles, Device, DeviceText, End, Inputs, LayerFiles, LayerParts, LocaleRule, ResId, Stack,
-    Status, Stop, ToolFault, asked_sets, rows_set_aside,
+    Status, Stop, ToolFault, asked_sets, rows_set_aside, status_or_stop,
 };
 use names::ids_named;
 use std::alloc::{AllocError, Global};

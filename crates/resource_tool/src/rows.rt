@@ -6,10 +6,9 @@ ghost use Rattle.command_base.specs.declared.fault.ToolFault.TheVariants.{Write}
 ghost use Rattle.resource_tool.specs.TableOutput.{rows_output, rows_printed, PrintsRows};
 ghost use Rattle.command_base.specs.CarriesOut.{IsKept};
 
-use crate::answered::status_or_stop;
 use crate::text::print_text;
 use answer_text::rows_text;
-use command_base::{Inputs, Status, Stop, Table, ToolFault, table_file};
+use command_base::{Inputs, Status, Stop, Table, ToolFault, status_or_stop, table_file};
 use std::alloc::Global;
 use std::io::Write;
 
