@@ -7,8 +7,9 @@ With --jobs each proof has at most so many jobs: one job takes the least process
 proved once those below it are, first those with the most work behind them, each with the jobs that
 processors and memory allow. A run of rt locks its crate and all crates below it, so each run here
 works on a copy of what it reads, as that was when all began, and what it made is then moved to the
-crate's out/, whole or not at all. Nobody edits such a copy, so rt computes each stamp in it once
-(rt_once.py). What rt finds up to date is not proved again.
+crate's out/, whole or not at all. Where a proof fails, what it proved is kept for the next one. Nobody
+edits such a copy, so rt computes each stamp in it once (rt_once.py). What rt finds up to date is not
+proved again.
 
 With --as-ci each crate is proved as `rt ci` does it, to measure that (rt_once.py): only in a copy of
 the repository that is made for it, since no other check can begin with what that leaves.
@@ -40,7 +41,8 @@ SOURCES = ("src", "specs", "proofs")
 # The folder in the room of rooms for the sources as they were when the run began.
 SOURCES_THEN = ".sources"
 # What a proof leaves in out/: work that a later proof begins with, and the library.
-MADE = ("incremental", "rlib")
+WORK = "incremental"
+MADE = (WORK, "rlib")
 # The file in out/ of a program that says which toolchain proved it, and from which sources.
 PROVED_WITH = "proved-with"
 # The memory that a check takes: at least so much, so much for a line of the crate and for one below,
@@ -234,7 +236,7 @@ class Room:
         for it in [*crate.below, crate]:
             link_tree(f"{rooms}/{SOURCES_THEN}/{it.name}", f"{self.top}/crates/{it.name}")
             link_tree(f"{it.folder}/out/rlib", f"{self.top}/crates/{it.name}/out/rlib")
-        link_tree(f"{crate.folder}/out/incremental", f"{self.folder}/out/incremental")
+        link_tree(f"{crate.folder}/out/{WORK}", f"{self.folder}/out/{WORK}")
         with open(f"{self.top}/crates.txt", "w", encoding="utf-8") as file:
             file.writelines(f"{it.line}\n" for it in [*crate.below, crate])
         shutil.copy2(f"{ROOT}/HANDLES", self.top)
@@ -243,14 +245,21 @@ class Room:
         """Moves what was made to the crate: the library last, and by a rename, so that no half of it is ever there."""
         # older than what was edited meanwhile
         os.utime(f"{self.folder}/out/rlib/stamp", (self.begun, self.begun))
-        os.makedirs(f"{self.crate.folder}/out", exist_ok=True)
         for part in MADE:
-            made, to = f"{self.folder}/out/{part}", f"{self.crate.folder}/out/{part}"
-            if os.path.isdir(to):
-                os.rename(to, f"{self.top}/{part}")
-            if os.path.isdir(made):
-                os.rename(made, to)
+            self.move(part)
         shutil.rmtree(self.top)
+
+    def keep_work(self):
+        """Moves to the crate what was proved before a proof failed, so that the next one begins with it."""
+        self.move(WORK)
+
+    def move(self, part):
+        made, to = f"{self.folder}/out/{part}", f"{self.crate.folder}/out/{part}"
+        os.makedirs(f"{self.crate.folder}/out", exist_ok=True)
+        if os.path.isdir(to):
+            os.rename(to, f"{self.top}/{part}")
+        if os.path.isdir(made):
+            os.rename(made, to)
 
 
 class Prover:
@@ -347,7 +356,11 @@ class Prover:
         if not self.is_ending:
             room = Room(self.rooms, crate, self.begun)
             words = [AS_CI] if self.as_ci else ["lib", "--jobs", str(jobs)]
-            self.run(crate, room.folder, *RT_ONCE, *words)
+            try:
+                self.run(crate, room.folder, *RT_ONCE, *words)
+            except NotProved:
+                room.keep_work()
+                raise
         if not self.is_ending:
             room.give_back()
 
