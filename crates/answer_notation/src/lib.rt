@@ -24,6 +24,7 @@ mod lone_table;
 mod look_ups;
 mod naming;
 mod rows;
+mod said;
 mod table_row;
 
 pub use attribute::attr_text;

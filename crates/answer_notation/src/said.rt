@@ -1,0 +1,32 @@
+//! What stands in lines, as other libraries write it.
+
+ghost use Rattle.sink.specs.Says.{Says};
+ghost use Rattle.notation.specs.ConfigText.{config_text};
+ghost use Rattle.reference_resolver.specs.config_precedence.config_record.Record.{record_bytes};
+ghost use Rattle.res_value.specs.ResId.{id_text};
+
+use bags_themes::{Record, ResId};
+use notation::write_config;
+use res_value::write_id;
+use sink::Sink;
+use std::io::Write;
+
+/// Says a configuration.
+pub(crate) fn say_config<W: Write + Drop>(config: &Record<'_>, out: &mut Sink<'_, W>)
+    ensures { Says W.contents out.old out.new (config_text (record_bytes config.now)) }
+{
+    if out.is_whole() {
+        let wrote = write_config(config, out.writer);
+        out.keep(wrote);
+    }
+}
+
+/// Says an id by its number.
+pub(crate) fn say_number_of<W: Write + Drop>(id: ResId, out: &mut Sink<'_, W>)
+    ensures { Says W.contents out.old out.new (id_text id.0) }
+{
+    if out.is_whole() {
+        let wrote = write_id(id, out.writer);
+        out.keep(wrote);
+    }
+}
