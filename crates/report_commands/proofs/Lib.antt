@@ -10,6 +10,5 @@ pub mod EntriesSteps
 pub mod CountedSteps
 pub mod DiffersSteps
 pub mod LineSteps
-pub mod LinePartSteps
 pub mod GoalSteps
 pub mod WholeTreeLemmas

@@ -1,121 +1,104 @@
-//! The lines of a tree, written.
+//! The lines of a tree, said.
 
 ghost use Rattle.std.specs.List.{flat_map};
 ghost use Rattle.std.specs.Prelude.{map};
-ghost use Rattle.contract_words.specs.Writes.{Writes};
+ghost use Rattle.sink.specs.Says.{Says};
 ghost use Rattle.report_commands.specs.TreeLinesSeen.{line_of};
-ghost use Rattle.report_commands.specs.LineParts.{front_text, shown_text};
 ghost use Rattle.report_commands.specs.TreeText.{else_text, behind_text, path_text, line_text};
 
-use crate::node_text::{write_if, write_node_label};
+use crate::node_text::say_node;
 use crate::path_end::{LastAnswer, MOST_DEPTH, PathEnd};
 use crate::tree_lines::TreeLine;
 use answer_text::{Form, StackNames};
-use std::io::{self, Write};
+use sink::Sink;
+use std::io::Write;
 
 /// Two spaces for each answer yes.
 const SPACES: &[u8; 64] = b"                                                                ";
 
-/// Writes the lines of a tree.
-#[tactic(auto, using(contract_words::proofs::TextSteps::puts_slice))]
-pub(crate) fn write_lines<W: Write + Drop>(
+/// Says the lines of a tree.
+#[tactic(auto, using(sink::proofs::SaysSteps::says_slice))]
+pub(crate) fn say_lines<W: Write + Drop>(
     form: Form,
     stack: &StackNames<'_, '_>,
     lines: &[TreeLine<'_>],
-    out: &mut W,
-) -> io::Result<()>
-    ensures { Writes W.contents out.old out.new result (flat_map (line_text form stack.now) (map line_of lines.now)) }
+    out: &mut Sink<'_, W>,
+)
+    ensures { Says W.contents out.old out.new (flat_map (line_text form stack.now) (map line_of lines.now)) }
 {
     for line in lines {
-        write_line(form, stack, line, out)?;
+        say_line(form, stack, line, out);
     }
-    Ok(())
 }
 
-fn write_line<W: Write + Drop>(
+fn say_line<W: Write + Drop>(
     form: Form,
     stack: &StackNames<'_, '_>,
     line: &TreeLine<'_>,
-    out: &mut W,
-) -> io::Result<()>
-    ensures { Writes W.contents out.old out.new result (line_text form stack.now (line_of line.now)) }
-{
-    write_front(line, out)?;
-    write_shown(form, stack, line, out)?;
-    out.write_all(b"\n")
-}
-
-// Writes what stands before the node of a line.
-#[tactic(auto, unfolding(crate::specs::LineParts::front_text))]
-fn write_front<W: Write + Drop>(line: &TreeLine<'_>, out: &mut W) -> io::Result<()>
-    ensures { Writes W.contents out.old out.new result (front_text (line_of line.now)) }
+    out: &mut Sink<'_, W>,
+)
+    ensures { Says W.contents out.old out.new (line_text form stack.now (line_of line.now)) }
 {
     match line {
         TreeLine::NodeAt { number, path, node } => {
-            write!(out, "{number}\t")?;
-            write_path(*path, out)?;
-            write_if(node, out)
+            out.say_count(*number);
+            out.say(b"\t");
+            say_path(*path, out);
+            say_node(form, stack, node, out);
+            out.say(b"\n");
         }
         TreeLine::Unreached { number, node } => {
-            write!(out, "{number}\tnot reached: ")?;
-            write_if(node, out)
+            out.say_count(*number);
+            out.say(b"\tnot reached: ");
+            say_node(form, stack, node, out);
+            out.say(b"\n");
         }
         TreeLine::Missing { path } => {
-            out.write_all(b"\t")?;
-            write_path(*path, out)
+            out.say(b"\t");
+            say_path(*path, out);
+            out.say(b"ends early");
+            out.say(b"\n");
         }
-    }
-}
-
-// Writes the node of a line, or that there is none.
-#[tactic(auto, unfolding(crate::specs::LineParts::shown_text))]
-fn write_shown<W: Write + Drop>(
-    form: Form,
-    stack: &StackNames<'_, '_>,
-    line: &TreeLine<'_>,
-    out: &mut W,
-) -> io::Result<()>
-    ensures { Writes W.contents out.old out.new result (shown_text form stack.now (line_of line.now)) }
-{
-    match line {
-        TreeLine::NodeAt { node, .. } | TreeLine::Unreached { node, .. } => {
-            write_node_label(form, stack, node, out)
-        }
-        TreeLine::Missing { .. } => out.write_all(b"ends early"),
     }
 }
 
 // How a line begins at the end of a path.
-#[tactic(auto, unfolding(crate::specs::TreeText::path_text))]
-fn write_path<W: Write + Drop>(path: PathEnd, out: &mut W) -> io::Result<()>
-    ensures { Writes W.contents out.old out.new result (path_text path) }
+fn say_path<W: Write + Drop>(path: PathEnd, out: &mut Sink<'_, W>)
+    ensures { Says W.contents out.old out.new (path_text path) }
 {
     let width = SPACES.len().min(2 * usize::from(path.depth));
-    out.write_all(&SPACES[..width])?;
+    out.say(&SPACES[..width]);
     if path.depth < MOST_DEPTH {
-        write_else(path.last, out)
+        say_else(path.last, out);
     } else {
-        write_behind(path.last, out)
+        say_behind(path.last, out);
     }
 }
 
 #[tactic(auto, unfolding(crate::specs::TreeText::else_text))]
-fn write_else<W: Write + Drop>(answer: LastAnswer, out: &mut W) -> io::Result<()>
-    ensures { Writes W.contents out.old out.new result (else_text answer) }
+fn say_else<W: Write + Drop>(answer: LastAnswer, out: &mut Sink<'_, W>)
+    ensures { Says W.contents out.old out.new (else_text answer) }
 {
-    match answer {
-        LastAnswer::No(_) => out.write_all(b"else "),
-        _ => Ok(()),
+    if let LastAnswer::No(_) = answer {
+        out.say(b"else ");
     }
 }
 
 #[tactic(auto, unfolding(crate::specs::TreeText::behind_text))]
-fn write_behind<W: Write + Drop>(answer: LastAnswer, out: &mut W) -> io::Result<()>
-    ensures { Writes W.contents out.old out.new result (behind_text answer) }
+fn say_behind<W: Write + Drop>(answer: LastAnswer, out: &mut Sink<'_, W>)
+    ensures { Says W.contents out.old out.new (behind_text answer) }
 {
     match answer {
-        LastAnswer::Nothing => Ok(()),
-        LastAnswer::Yes(test) => write!(out, "then of {test}: "),
-        LastAnswer::No(test) => write!(out, "else of {test}: "),
+        LastAnswer::Nothing => {}
+        LastAnswer::Yes(test) => {
+            out.say(b"then of ");
+            out.say_count(test);
+            out.say(b": ");
+        }
+        LastAnswer::No(test) => {
+            out.say(b"else of ");
+            out.say_count(test);
+            out.say(b": ");
+        }
     }
 }
