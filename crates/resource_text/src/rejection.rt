@@ -4,15 +4,17 @@ ghost use Rattle.std.specs.Prelude.{◌≡◌, map, slice_get};
 ghost use Rattle.std.specs.List.{flat_map};
 ghost use Rattle.std.specs.Option.{option_copied, option_map};
 ghost use Rattle.contract_words.specs.Writes.{Writes};
+ghost use Rattle.sink.specs.Says.{Says};
 ghost use Rattle.cert_maker.specs.cert_tree.Certificate.{goal_of, goals_of};
 ghost use Rattle.cert_maker.specs.res_value.Goal.{goal_seen};
 ghost use Rattle.resource_text.specs.RejectionNotation.{claim_at, claim_in, claimed_line, fault_words, goal_or_place, rejected_notation, rejection_in, rejection_notation, rejections_in, rule_words, shown_notation, shown_of, verdict_in};
 
-use crate::verdict::{write_accepted, write_failed, write_rejection};
+use crate::verdict::{say_accepted, say_failed, say_rejection};
 use answer_notation::{Naming, write_claimed_end, write_device, write_goal, write_two_devices};
 use cert_maker::{Cert, Goal, Rule, Shown, Verdict};
 use cert_tree::{CertGoal, Node};
 use command_base::End;
+use sink::Sink;
 use std::io::{self, Write};
 
 /// A rejection, and where the node says that its goal ends at which it is, if that is a leaf.
@@ -49,10 +51,26 @@ pub fn write_verdict_in<W: Write + Drop>(
     ensures { Writes W.contents out.old out.new result (verdict_in (option_copied naming.entry) (map goal_seen goals.now)
         (goals_of certificate.now) verdict.now) }
 {
+    let mut sink = Sink::new(out);
+    say_verdict_in(naming, goals, certificate, verdict, &mut sink);
+    sink.end()
+}
+
+fn say_verdict_in<W: Write + Drop>(
+    naming: Option<&Naming<'_, '_, '_>>,
+    goals: &[Goal],
+    certificate: &Cert,
+    verdict: &Verdict,
+    out: &mut Sink<'_, W>,
+)
+    ensures { Says W.contents out.old out.new (verdict_in (option_copied naming.entry) (map goal_seen goals.now)
+        (goals_of certificate.now) verdict.now) }
+{
     match verdict {
-        Verdict::Accepted => write_accepted(certificate, out),
+        Verdict::Accepted => say_accepted(certificate, out),
         Verdict::Rejected { .. } => {
-            write_rejection_in(naming, goals, &Rejection::of(*verdict, certificate), out)
+            let rejection = Rejection::of(*verdict, certificate);
+            say_rejection_in(naming, goals, &rejection, out);
         }
     }
 }
@@ -69,40 +87,54 @@ pub fn write_rejections_in<W: Write + Drop>(
     ensures { Writes W.contents out.old out.new result (rejections_in (option_copied naming.entry) (map goal_seen goals.now)
         rejections.now of) }
 {
-    write_each(naming, goals, rejections, out)?;
-    write_failed(rejections.len(), of, out)
+    let mut sink = Sink::new(out);
+    say_each(naming, goals, rejections, &mut sink);
+    say_failed(rejections.len(), of, &mut sink);
+    sink.end()
 }
 
-#[tactic(auto, using(contract_words::proofs::TextSteps::puts))]
-fn write_each<W: Write + Drop>(
+#[tactic(auto, using(sink::proofs::SaysSteps::says_all))]
+fn say_each<W: Write + Drop>(
     naming: Option<&Naming<'_, '_, '_>>,
     goals: &[Goal],
     rejections: &[Rejection],
-    out: &mut W,
-) -> io::Result<()>
-    ensures { Writes W.contents out.old out.new result
+    out: &mut Sink<'_, W>,
+)
+    ensures { Says W.contents out.old out.new
         (flat_map (rejection_in (option_copied naming.entry) (map goal_seen goals.now)) rejections.now) }
 {
     for rejection in rejections {
-        write_rejection_in(naming, goals, rejection, out)?;
+        say_rejection_in(naming, goals, rejection, out);
     }
-    Ok(())
 }
 
-fn write_rejection_in<W: Write + Drop>(
+fn say_rejection_in<W: Write + Drop>(
     naming: Option<&Naming<'_, '_, '_>>,
     goals: &[Goal],
     rejection: &Rejection,
-    out: &mut W,
-) -> io::Result<()>
-    ensures { Writes W.contents out.old out.new result
+    out: &mut Sink<'_, W>,
+)
+    ensures { Says W.contents out.old out.new
         (rejection_in (option_copied naming.entry) (map goal_seen goals.now) rejection.now) }
 {
     match naming {
-        Some(naming) => {
-            write_notation(naming, goals, rejection.claimed, &rejection.verdict, out)
-        }
-        None => write_rejection(&rejection.verdict, out),
+        Some(naming) => say_notation(naming, goals, rejection.claimed, &rejection.verdict, out),
+        None => say_rejection(&rejection.verdict, out),
+    }
+}
+
+fn say_notation<W: Write + Drop>(
+    naming: &Naming<'_, '_, '_>,
+    goals: &[Goal],
+    claimed: Option<End>,
+    verdict: &Verdict,
+    out: &mut Sink<'_, W>,
+)
+    ensures { Says W.contents out.old out.new (rejection_notation naming.now (map goal_seen goals.now) claimed verdict.now) }
+{
+    if out.is_whole() {
+        let wrote = write_notation(naming, goals, claimed, verdict, out.writer);
+        out.keep(wrote);
     }
 }
 
