@@ -1,3 +1,4 @@
+pub mod Said
 pub mod Stopped
 pub mod Opening
 pub mod Asked
