@@ -1,4 +1,5 @@
 pub mod Answering
+pub mod Written
 pub mod QuerySteps
 pub mod SamePath
 pub mod Cited

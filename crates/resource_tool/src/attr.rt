@@ -16,7 +16,7 @@ ghost use Rattle.command_base.specs.CarriesOut.{IsKept};
 use crate::end_status::status_of_end;
 use crate::no_bag::print_no_bag;
 use crate::opened::Opened;
-use crate::text::print_text;
+use crate::text::{ended, print_text};
 use answer_notation::{Naming, attr_text};
 use answer_text::{NamesBeside, write_end_with_name, write_id};
 use command_base::{
@@ -171,8 +171,7 @@ impl Opened<'_> {
             Ok(theme) => {
                 let end = theme.attribute(&self.stack, attr, &self.device);
                 drop(theme);
-                write_attribute(&names, attr, end, out)?;
-                Ok(status_of_end(end))
+                ended(status_of_end(end), write_attribute(&names, attr, end, out))
             }
             Err(fault) => print_no_bag(fault, out),
         }

@@ -9,12 +9,12 @@ ghost use Rattle.command_base.specs.Output.{Prints};
 ghost use Rattle.command_base.specs.StackBytesSeen.{layer_bytes};
 ghost use Rattle.command_base.specs.declared.fault.ToolFault.TheVariants.{Write};
 ghost use Rattle.resource_tool.specs.OpenedSeen.{opened_of};
-ghost use Rattle.resource_tool.specs.BagOutput.{id_and_layer, bag_row_line, bag_answer, bag_in_notation, bag_output, PrintsBag, PrintsBagFiles};
+ghost use Rattle.resource_tool.specs.BagOutput.{bag_row_line, bag_answer, bag_in_notation, bag_output, PrintsBag, PrintsBagFiles};
 ghost use Rattle.command_base.specs.CarriesOut.{IsKept};
 
 use crate::no_bag::print_no_bag;
 use crate::opened::{OpenId, Opened};
-use crate::text::print_text;
+use crate::text::{ended, print_text};
 use answer_notation::{Naming, bag_text};
 use answer_text::{NamesBeside, bag, write_id, write_layer, write_value};
 use command_base::{
@@ -110,10 +110,7 @@ impl Opened<'_> {
     {
         let names = NamesBeside::of(alloc, &self.stack, names)?;
         match bag(alloc, &self.stack, id, &self.device) {
-            Ok(rows) => {
-                write_rows(&names, rows.as_slice(), out)?;
-                Ok(Status::Done)
-            }
+            Ok(rows) => ended(Status::Done, write_rows(&names, rows.as_slice(), out)),
             Err(fault) => print_no_bag(fault, out),
         }
     }
@@ -167,7 +164,7 @@ fn write_rows<W: Write + Drop>(
     Ok(())
 }
 
-#[tactic(auto, unfolding(crate::specs::BagOutput::bag_row_line))]
+#[tactic(auto, unfolding(crate::specs::BagOutput::bag_row_line, crate::specs::BagOutput::id_and_layer))]
 fn write_row<W: Write + Drop>(
     names: &NamesBeside<'_, '_>,
     row: BagRow,
@@ -175,23 +172,11 @@ fn write_row<W: Write + Drop>(
 ) -> io::Result<()>
     ensures { Writes W.contents out.old out.new result (bag_row_line names.now.stack names.now.asked row) }
 {
-    write_id_and_layer(names, row.name, row.layer, out)?;
+    write_id(row.name, out)?;
+    names.write(row.name, out)?;
+    out.write_all(b" ")?;
+    write_layer(row.layer, out)?;
     out.write_all(b" ")?;
     write_value(row.value, out)?;
     out.write_all(b"\n")
-}
-
-#[tactic(auto, unfolding(crate::specs::BagOutput::id_and_layer))]
-fn write_id_and_layer<W: Write + Drop>(
-    names: &NamesBeside<'_, '_>,
-    id: ResId,
-    layer: usize,
-    out: &mut W,
-) -> io::Result<()>
-    ensures { Writes W.contents out.old out.new result (id_and_layer names.now.stack names.now.asked id.0 layer) }
-{
-    write_id(id, out)?;
-    names.write(id, out)?;
-    out.write_all(b" ")?;
-    write_layer(layer, out)
 }

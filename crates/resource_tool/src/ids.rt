@@ -11,6 +11,7 @@ ghost use Rattle.command_base.specs.declared.fault.ToolFault.TheVariants.{Write}
 ghost use Rattle.resource_tool.specs.TableOutput.{ListsIds, id_line, ids_output, ids_text, listed_ids};
 ghost use Rattle.command_base.specs.CarriesOut.{IsKept};
 
+use crate::text::ended;
 use answer_text::{write_id, write_its_name};
 use command_base::{
     Inputs, LayerFiles, LayerParts, ResId, Stack, Status, Stop, ToolFault, open_stack,
@@ -77,8 +78,7 @@ fn print_ids<W: Write + Drop>(
 {
     let ids = base_ids(alloc, stack)?;
     let names = StackNames::of(alloc, stack)?;
-    write_ids(&names, &ids, out)?;
-    Ok(Status::Done)
+    ended(Status::Done, write_ids(&names, &ids, out))
 }
 
 fn base_ids(alloc: Global, stack: &Stack<'_>) -> Result<Vec<ResId>, AllocError>

@@ -16,7 +16,7 @@ ghost use Rattle.resource_tool.specs.Answered.{PrintsBothOneOf, status_in, goal_
 ghost use Rattle.resource_tool.specs.BoxFiles.{goals_held};
 ghost use Rattle.resource_tool.specs.Make.{Makes, MakesFiles, PrintsMade, PrintsTold, PrintsToldFirst, looked_at, make_opened, make_seen, most_goals};
 ghost use Rattle.resource_text.specs.cert_maker.Omitting.{IsOmitting};
-ghost use Rattle.resource_tool.specs.MakeOutput.{IsMakeOutput, IsMakeOutputAbout, IsMakeAnswer, make_inputs, make_inputs_by, counterexample_line, counterexample_text, status_of_made, goal_of_made, made_output};
+ghost use Rattle.resource_tool.specs.MakeOutput.{IsMakeOutput, IsMakeOutputAbout, IsMakeAnswer, make_inputs, make_inputs_by, counterexample_text, status_of_made, goal_of_made, made_output};
 ghost use Rattle.resource_tool.specs.OmitOutput.{IsOmitOutput};
 ghost use Rattle.resource_tool.specs.LineReadsBack.{LineReadsBack, TreesReadBack};
 ghost use Rattle.resource_tool.specs.OpenedSeen.{opened_box};
@@ -405,7 +405,7 @@ pub(crate) fn write_line<W: Write + Drop>(text: &[u8], out: &mut W) -> io::Resul
     out.write_all(b"\n")
 }
 
-#[tactic(auto, unfolding(crate::specs::MakeOutput::counterexample_text))]
+#[tactic(auto, unfolding(crate::specs::MakeOutput::counterexample_text, crate::specs::MakeOutput::counterexample_line))]
 fn write_counterexample<W: Write + Drop>(
     goal: usize,
     device: &Device,
@@ -414,13 +414,6 @@ fn write_counterexample<W: Write + Drop>(
 ) -> io::Result<()>
     ensures { Writes W.contents out.old out.new result (counterexample_text goal (device_numbers device.now) end) }
 {
-    write_counterexample_line(goal, out)?;
+    writeln!(out, "counter goal {goal}")?;
     device_with_end(device, end, out)
-}
-
-#[tactic(auto, unfolding(crate::specs::MakeOutput::counterexample_line))]
-fn write_counterexample_line<W: Write + Drop>(goal: usize, out: &mut W) -> io::Result<()>
-    ensures { Writes W.contents out.old out.new result (counterexample_line goal) }
-{
-    writeln!(out, "counter goal {goal}")
 }

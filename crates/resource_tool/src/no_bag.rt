@@ -2,16 +2,15 @@
 
 ghost use Rattle.std.specs.Prelude.{◌≡◌, ◌≢◌, Ok, Err};
 ghost use Rattle.command_base.specs.answer_text.bags_themes.declared.bag_fault.BagFault.TheVariants as of_bag;
-ghost use Rattle.contract_words.specs.Writes.{Writes};
 ghost use Rattle.command_base.specs.declared.fault.ToolFault.TheVariants.{OutOfMemory};
 ghost use Rattle.command_base.specs.Output.{Prints};
-ghost use Rattle.resource_tool.specs.BagOutput.{no_bag, no_bag_line};
+ghost use Rattle.resource_tool.specs.BagOutput.{no_bag};
 
 use command_base::{BagFault, Status, ToolFault};
-use std::io::{self, Write};
+use std::io::Write;
 
 /// Prints the line that says why there is no bag. Want of memory is the command's own fault.
-#[tactic(auto, unfolding(crate::specs::BagOutput::no_bag))]
+#[tactic(auto, unfolding(crate::specs::BagOutput::no_bag_line))]
 pub(crate) fn print_no_bag<W: Write + Drop>(
     fault: BagFault,
     out: &mut W,
@@ -20,19 +19,12 @@ pub(crate) fn print_no_bag<W: Write + Drop>(
     ensures has_memory { fault ≢ of_bag.OutOfMemory → result ≢ Err OutOfMemory }
     ensures memory { fault ≡ of_bag.OutOfMemory → (result ≡ Err OutOfMemory) × (out.new ≡ out.old) }
 {
-    let name = match fault {
-        BagFault::Absent => "Absent",
-        BagFault::Plain => "Plain",
-        BagFault::BagDepth => "BagDepth",
+    let line: &[u8] = match fault {
+        BagFault::Absent => b"no bag Absent\n",
+        BagFault::Plain => b"no bag Plain\n",
+        BagFault::BagDepth => b"no bag BagDepth\n",
         BagFault::OutOfMemory => return Err(ToolFault::OutOfMemory),
     };
-    write_no_bag(name, out)?;
+    out.write_all(line)?;
     Ok(Status::Negative)
-}
-
-#[tactic(auto, unfolding(crate::specs::BagOutput::no_bag_line))]
-fn write_no_bag<W: Write + Drop>(fault: &str, out: &mut W) -> io::Result<()>
-    ensures { Writes W.contents out.old out.new result (no_bag_line fault.now) }
-{
-    writeln!(out, "no bag {fault}")
 }

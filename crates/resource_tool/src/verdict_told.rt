@@ -112,13 +112,15 @@ impl OpenedCert<'_> {
     {
         let naming = naming_of(alloc, &self.stack, asked, paths)?;
         let mut text = Vec::new(alloc);
-        write_verdict_in(
+        let wrote = write_verdict_in(
             naming.as_ref(),
             goals,
             &self.certificate,
             verdict,
             &mut text,
-        )?;
+        );
+        drop(naming);
+        wrote?;
         set_aside_line(rows_set_aside(&self.stack, self.rule), &mut text)?;
         Ok(text)
     }
@@ -181,7 +183,9 @@ impl Rejections {
     {
         let naming = naming_of(alloc, stack, asked, paths)?;
         let mut text = Vec::new(alloc);
-        write_rejections_in(naming.as_ref(), goals, &self.all, self.of, &mut text)?;
+        let wrote = write_rejections_in(naming.as_ref(), goals, &self.all, self.of, &mut text);
+        drop(naming);
+        wrote?;
         set_aside_line(self.set_aside, &mut text)?;
         Ok(text)
     }

@@ -10,7 +10,7 @@ use Rattle.command_base.specs.declared.status.Status.TheVariants.{Done, Negative
 use Rattle.command_base.specs.Output.{Output}
 use Rattle.command_base.specs.declared.fault.ToolFault.{ToolFault}
 use Rattle.resource_tool.specs.MapOutput.{MapOutput}
-use Rattle.resource_tool.specs.MakeOutput.{certificate_line}
+use Rattle.resource_tool.specs.MakeOutput.{certificate_line, made_text}
 use Rattle.resource_tool.specs.OmitOutput.{kept_output, lines_of, omit_output}
 use Rattle.resource_tool.proofs.omit.print_kept.Goals as goal
 
@@ -71,6 +71,10 @@ pub returns-in_err-write_line-in-Cert-clause-reads_back : goal.returns-in_err-wr
 returns-in_err-write_line-in-Cert-clause-reads_back g c =
     let p = err_from_is_err_and c.from_residual-in_err-write_line-in-Cert.result c.from_residual-in_err-write_line-in-Cert.ensures.1 in
     rw (p.1, p.2, c.in-Cert.is) c.in_ok-text-in-Cert.ensures.reads_back
+
+pub returns-in_ok-write_all-in-NodeLimit-clause-output : goal.returns-in_ok-write_all-in-NodeLimit-clause-output
+unfolding made_text
+returns-in_ok-write_all-in-NodeLimit-clause-output g c = rw c.in-NodeLimit.is (_, [], refl, c.in_ok-write_all-in-NodeLimit.ensures.bytes, Appends-nil _)
 
 pub returns-in_ok-write_all-in-NodeLimit-clause-told : goal.returns-in_ok-write_all-in-NodeLimit-clause-told
 returns-in_ok-write_all-in-NodeLimit-clause-told g c = rw c.in-NodeLimit.is (inr (Appends-nil _))

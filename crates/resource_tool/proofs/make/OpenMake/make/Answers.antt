@@ -1,6 +1,7 @@
-use Rattle.std.proofs.Common.{map, None, Ok, refl, rules}
+use Rattle.std.proofs.Common.{◌∙◌, ap, map, None, Ok, refl}
 use Rattle.std.proofs.lemmas.Result.{err_from_is_err_and}
 use Rattle.resource_tool.specs.res_value.Goal.{goal_seen}
+use Rattle.command_base.specs.answer_text.NameText.{NamesBesideOf}
 use Rattle.resource_tool.specs.MakeOutput.{IsMakeOutputAbout, IsMakeAnswer}
 use Rattle.resource_tool.specs.OpenedSeen.{opened_box}
 use Rattle.resource_tool.proofs.MakeSteps.{told-beside}
@@ -23,7 +24,17 @@ returns-in_err-answered-clause-told g c =
     )
 
 pub returns-in_err-write_goal_told-clause-told : goal.returns-in_err-write_goal_told-clause-told
-returns-in_err-write_goal_told-clause-told g c = (c.make_shown.new.errors, c.make_shown.ensures.quiet, search rules)
+returns-in_err-write_goal_told-clause-told g c =
+    let p = err_from_is_err_and c.from_residual-in_err-write_goal_told.result c.from_residual-in_err-write_goal_told.ensures.1 in
+    (c.make_shown.new.errors, c.make_shown.ensures.quiet, rw (p.1, p.2) refl)
+
+pub returns-in_err-write_goal_told-clause-quiet : goal.returns-in_err-write_goal_told-clause-quiet
+returns-in_err-write_goal_told-clause-quiet g c = λ still unnamed.
+    c.write_goal_told.ensures.quiet (ap (λ (names : NamesBesideOf). names.asked) c.in_ok-names.ensures ∙ unnamed) ∙ c.make_shown.ensures.quiet still
+
+pub returns-clause-quiet : goal.returns-clause-quiet
+returns-clause-quiet g c = λ still unnamed.
+    c.write_goal_told.ensures.quiet (ap (λ (names : NamesBesideOf). names.asked) c.in_ok-names.ensures ∙ unnamed) ∙ c.make_shown.ensures.quiet still
 
 pub returns-clause-told : goal.returns-clause-told
 returns-clause-told g c = (

@@ -1,5 +1,6 @@
 use Rattle.std.proofs.Common.{refl}
 use Rattle.resource_tool.proofs.Answering.{printed_unless}
+use Rattle.resource_tool.proofs.Written.{printed_if_written}
 use Rattle.resource_tool.proofs.opened.Opened.bag.Goals as goal
 
 pub returns : goal.returns
@@ -7,5 +8,5 @@ returns g c = printed_unless g.W.Write.contents c.args.out.now c.print_no_bag.ne
 
 pub returns-in-Ok : goal.returns-in-Ok
 returns-in-Ok g c =
-    let text = rw (c.in_ok-names.ensures, c.as_slice.ensures) at c.in_ok-write_rows-in-Ok.ensures in
-    (_, rw c.in-Ok.ensures refl, text)
+    let text = rw (c.in_ok-names.ensures, c.as_slice.ensures) at c.write_rows.ensures in
+    rw c.in-Ok.ensures (printed_if_written g.W.Write.contents c.args.out.now c.write_rows.new.out c.write_rows.result c.ended.result _ text c.ended.ensures)

@@ -1,0 +1,6 @@
+use Rattle.std.proofs.lemmas.Result.{on_ok_weaker}
+use Rattle.std.proofs.KnownBytes.{Appends-trans}
+use Rattle.resource_tool.proofs.make.write_line.Goals as goal
+
+pub returns : goal.returns
+returns g c = on_ok_weaker c.write_all-2.result (λ last. Appends-trans _ _ _ _ _ c.in_ok-write_all.ensures.bytes last) c.write_all-2.ensures.bytes
