@@ -135,8 +135,9 @@ fn say_named_by<W: Write + Drop>(
 fn say_no_layer<W: Write + Drop>(strings: Option<Pool<'_>>, out: &mut Sink<'_, W>)
     ensures { Says W.contents out.old out.new (no_layer (option_map pool_of strings.entry)) }
 {
-    if strings.is_none() {
-        out.say(b" (no such layer)");
+    match strings {
+        Some(_) => {}
+        None => out.say(b" (no such layer)"),
     }
 }
 
