@@ -11,6 +11,7 @@ use crate::columns::{Line, say_columns};
 use crate::ends::{say_end, say_end_within};
 use crate::explanation::say_look_ups;
 use crate::naming::Naming;
+use crate::said::{ended, sink_to};
 use answer_text::{BagFault, BagRow, End, ResId, Stack, bag, kind};
 use bags_themes::{Device, REFERENCES_FOLLOWED, Slot};
 use sink::Sink;
@@ -33,13 +34,10 @@ pub fn attr_text(
     ensures { IfOk result (λ text. text.items ≡ attr_notation naming.now force attr.0 (device_numbers device.now) styles.now slot) }
 {
     let mut text = Vec::new(naming.alloc());
-    let mut sink = Sink::new(&mut text);
+    let mut sink = sink_to(&mut text);
     say_attr(naming, device, force, attr, styles, slot, &mut sink);
-    match sink.end() {
-        Ok(()) => Ok(text),
-        // To a `Vec` only a want of memory is a fault.
-        Err(_) => Err(AllocError),
-    }
+    ended(sink)?;
+    Ok(text)
 }
 
 #[tactic(auto, unfolding(crate::specs::AttrNotation::attr_notation))]

@@ -6,6 +6,7 @@ ghost use Rattle.sink.specs.Says.{Says};
 ghost use Rattle.answer_notation.specs.BagNotation.{row_told, rows_told};
 
 use crate::naming::Naming;
+use crate::said::{ended, sink_to};
 use answer_text::{BagRow, Keys, ResId};
 use sink::Sink;
 use std::alloc::AllocError;
@@ -21,13 +22,10 @@ pub fn bag_text(
 {
     let keys = Keys::of(naming.stack(), id);
     let mut text = Vec::new(naming.alloc());
-    let mut sink = Sink::new(&mut text);
+    let mut sink = sink_to(&mut text);
     say_rows(naming, keys, rows, &mut sink);
-    match sink.end() {
-        Ok(()) => Ok(text),
-        // To a `Vec` only a want of memory is a fault.
-        Err(_) => Err(AllocError),
-    }
+    ended(sink)?;
+    Ok(text)
 }
 
 #[tactic(auto, using(sink::proofs::SaysSteps::says_all))]

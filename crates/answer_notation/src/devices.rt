@@ -12,6 +12,7 @@ ghost use Rattle.answer_notation.specs.DeviceNotation.{alone, device_line, devic
 use crate::goal::say_goal_end;
 use crate::look_ups::{push_goal, some_has};
 use crate::naming::Naming;
+use crate::said::{ended, sink_to};
 use bags_themes::{Coord, Device, ResId, Stack};
 use config_box::{Choice, Test};
 use notation::write_test;
@@ -93,7 +94,7 @@ fn say_qualifiers_or_any<W: Write + Drop>(
     if out.is_whole() {
         match qualifiers(alloc, stack, ids, other, device) {
             Ok(words) => out.say(or_any(&words)),
-            Err(fault) => out.keep(Err(fault)),
+            Err(fault) => out.keep(Err(fault.into())),
         }
     }
 }
@@ -115,13 +116,13 @@ fn qualifiers(
     ids: &[ResId],
     other: &Device,
     device: &Device,
-) -> io::Result<Vec<u8>>
+) -> Result<Vec<u8>, AllocError>
     ensures { IfOk result (λ text. text.items ≡ qualifiers_text stack.now (map (λ id. id.0) ids.now) (device_numbers other.now) (device_numbers device.now)) }
 {
     let mut text = Vec::new(alloc);
-    let mut sink = Sink::new(&mut text);
+    let mut sink = sink_to(&mut text);
     say_qualifiers(alloc, stack, ids, other, device, &Coord::ALL, &mut sink);
-    sink.end()?;
+    ended(sink)?;
     Ok(text)
 }
 

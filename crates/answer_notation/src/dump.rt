@@ -11,7 +11,7 @@ ghost use Rattle.answer_notation.specs.TableNotation.{dump_row_notation, package
 
 use crate::lone_table::{lone_table, stack_of};
 use crate::naming::Naming;
-use crate::said::say_number_of;
+use crate::said::{ended, say_number_of, sink_to};
 use crate::table_row::say_row_end;
 use answer_text::{
     ResId, Row, Stack, StackNames, Table, write_flags, write_its_name, write_package_line,
@@ -60,13 +60,10 @@ fn text_with(
     ensures { IfOk result (λ text. text.items ≡ dump_in naming.now table.now) }
 {
     let mut text = Vec::new(naming.alloc());
-    let mut sink = Sink::new(&mut text);
+    let mut sink = sink_to(&mut text);
     say_packages(naming, names, table, &mut sink);
-    match sink.end() {
-        Ok(()) => Ok(text),
-        // To a `Vec` only a want of memory is a fault.
-        Err(_) => Err(AllocError),
-    }
+    ended(sink)?;
+    Ok(text)
 }
 
 #[tactic(auto, using(sink::proofs::SaysSteps::says_slice), unfolding(crate::specs::TableNotation::dump_in))]

@@ -9,7 +9,7 @@ ghost use Rattle.answer_notation.specs.EndNotation.{origin_notation, end_notatio
 
 use crate::last::last_within;
 use crate::naming::Naming;
-use crate::said::say_config;
+use crate::said::{ended, say_config, sink_to};
 use bags_themes::{Cand, Device, End, REFERENCES_FOLLOWED, ResId};
 use sink::Sink;
 use std::alloc::AllocError;
@@ -24,13 +24,10 @@ pub fn ends_text(
     ensures { IfOk result (λ text. text.items ≡ ends_notation naming.now (device_numbers device.now) ids.now) }
 {
     let mut text = Vec::new(naming.alloc());
-    let mut sink = Sink::new(&mut text);
+    let mut sink = sink_to(&mut text);
     say_ends(naming, device, ids, &mut sink);
-    match sink.end() {
-        Ok(()) => Ok(text),
-        // To a `Vec` only a want of memory is a fault.
-        Err(_) => Err(AllocError),
-    }
+    ended(sink)?;
+    Ok(text)
 }
 
 #[tactic(auto, using(sink::proofs::SaysSteps::says_all))]

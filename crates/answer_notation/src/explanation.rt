@@ -15,6 +15,7 @@ use crate::columns::{Line, say_columns};
 use crate::decision_words::write_decision;
 use crate::ends::say_end_within;
 use crate::naming::Naming;
+use crate::said::{ended, sink_to};
 use bags_themes::{Cand, Cell, Decision, Device, Next, REFERENCES_FOLLOWED, ResId, Stack};
 use notation::write_config;
 use reference_resolver::select;
@@ -40,13 +41,10 @@ pub fn explain_text(
     ensures { IfOk result (λ text. text.items ≡ explain_notation naming.now all (device_numbers device.now) id.0) }
 {
     let mut text = Vec::new(naming.alloc());
-    let mut sink = Sink::new(&mut text);
+    let mut sink = sink_to(&mut text);
     say_explanation(naming, all, device, id, &mut sink);
-    match sink.end() {
-        Ok(()) => Ok(text),
-        // To a `Vec` only a want of memory is a fault.
-        Err(_) => Err(AllocError),
-    }
+    ended(sink)?;
+    Ok(text)
 }
 
 // Says the same.

@@ -8,7 +8,7 @@ ghost use Rattle.answer_notation.specs.TableNotation.{row_notation, rows_in, row
 
 use crate::lone_table::{lone_table, stack_of};
 use crate::naming::Naming;
-use crate::said::say_number_of;
+use crate::said::{ended, say_number_of, sink_to};
 use crate::table_row::say_row_end;
 use answer_text::{Row, Stack, Table, write_totals};
 use sink::Sink;
@@ -40,13 +40,10 @@ fn named_text(naming: &Naming<'_, '_, '_>, table: &Table<'_>) -> Result<Vec<u8>,
     ensures { IfOk result (λ text. text.items ≡ rows_in naming.now table.now) }
 {
     let mut text = Vec::new(naming.alloc());
-    let mut sink = Sink::new(&mut text);
+    let mut sink = sink_to(&mut text);
     say_rows(naming, table, &mut sink);
-    match sink.end() {
-        Ok(()) => Ok(text),
-        // To a `Vec` only a want of memory is a fault.
-        Err(_) => Err(AllocError),
-    }
+    ended(sink)?;
+    Ok(text)
 }
 
 #[tactic(auto, using(sink::proofs::SaysSteps::says_all, std::proofs::lemmas::Grind::common_steps), unfolding(crate::specs::TableNotation::rows_in))]
