@@ -149,9 +149,9 @@ fn push_layer(
 ) -> Result<(), AllocError>
     requires few { place < 64 }
     requires within { IsWithin (place * 2 ^ 64) totals.old }
-    ensures text { (layer : LayerOf) → stack.now ≡ by_itself layer → OnOk result (text.new.items ≡ text.old.items ++ layer_lines (place, (layer, uses.now))) }
-    ensures counted { (layer : LayerOf) → stack.now ≡ by_itself layer → OnOk result (totals.new ≡ fold with_row totals.old (used_rows (layer, uses.now))) }
-    ensures within { OnOk result (IsWithin ((place + 1) * 2 ^ 64) totals.new) }
+    ensures { OnOk result (IsWithin ((place + 1) * 2 ^ 64) totals.new
+        × ((layer : LayerOf) → stack.now ≡ by_itself layer → (text.new.items ≡ text.old.items ++ layer_lines (place, (layer, uses.now)))
+        × (totals.new ≡ fold with_row totals.old (used_rows (layer, uses.now))))) }
 {
     let Some(table) = stack.layer_table(0) else {
         return Ok(());
