@@ -10,5 +10,6 @@ pub mod EntriesSteps
 pub mod CountedSteps
 pub mod DiffersSteps
 pub mod LineSteps
+pub mod LinePartSteps
 pub mod GoalSteps
 pub mod WholeTreeLemmas

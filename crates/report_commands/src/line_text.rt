@@ -4,9 +4,10 @@ ghost use Rattle.std.specs.List.{flat_map};
 ghost use Rattle.std.specs.Prelude.{map};
 ghost use Rattle.sink.specs.Says.{Says};
 ghost use Rattle.report_commands.specs.TreeLinesSeen.{line_of};
+ghost use Rattle.report_commands.specs.LineParts.{front_text, shown_text};
 ghost use Rattle.report_commands.specs.TreeText.{else_text, behind_text, path_text, line_text};
 
-use crate::node_text::say_node;
+use crate::node_text::{say_if, say_node_label};
 use crate::path_end::{LastAnswer, MOST_DEPTH, PathEnd};
 use crate::tree_lines::TreeLine;
 use answer_text::{Form, StackNames};
@@ -39,26 +40,49 @@ fn say_line<W: Write + Drop>(
 )
     ensures { Says W.contents out.old out.new (line_text form stack.now (line_of line.now)) }
 {
+    say_front(line, out);
+    say_shown(form, stack, line, out);
+    out.say(b"\n");
+}
+
+// Says what stands before the node of a line.
+fn say_front<W: Write + Drop>(line: &TreeLine<'_>, out: &mut Sink<'_, W>)
+    ensures { Says W.contents out.old out.new (front_text (line_of line.now)) }
+{
     match line {
         TreeLine::NodeAt { number, path, node } => {
             out.say_count(*number);
             out.say(b"\t");
             say_path(*path, out);
-            say_node(form, stack, node, out);
-            out.say(b"\n");
+            say_if(node, out);
         }
         TreeLine::Unreached { number, node } => {
             out.say_count(*number);
             out.say(b"\tnot reached: ");
-            say_node(form, stack, node, out);
-            out.say(b"\n");
+            say_if(node, out);
         }
         TreeLine::Missing { path } => {
             out.say(b"\t");
             say_path(*path, out);
-            out.say(b"ends early");
-            out.say(b"\n");
         }
+    }
+}
+
+// Says the node of a line, or that there is none.
+#[tactic(auto, unfolding(crate::specs::LineParts::shown_text))]
+fn say_shown<W: Write + Drop>(
+    form: Form,
+    stack: &StackNames<'_, '_>,
+    line: &TreeLine<'_>,
+    out: &mut Sink<'_, W>,
+)
+    ensures { Says W.contents out.old out.new (shown_text form stack.now (line_of line.now)) }
+{
+    match line {
+        TreeLine::NodeAt { node, .. } | TreeLine::Unreached { node, .. } => {
+            say_node_label(form, stack, node, out);
+        }
+        TreeLine::Missing { .. } => out.say(b"ends early"),
     }
 }
 

@@ -4,7 +4,7 @@ ghost use Rattle.std.specs.Option.{option_map};
 ghost use Rattle.sink.specs.Says.{Says};
 ghost use Rattle.command_base.specs.answer_text.string_pool.Pool.{pool_of};
 ghost use Rattle.command_base.specs.cert_tree.Certificate.{node_of};
-ghost use Rattle.report_commands.specs.TreeText.{no_layer, named_by, string_or_index, leaf_text, value_text, bag_text, node_label, if_text, node_text};
+ghost use Rattle.report_commands.specs.TreeText.{no_layer, named_by, string_or_index, leaf_text, value_text, bag_text, node_label, if_text};
 
 use crate::parts::{say_end_with_string, say_its_name, say_layer, say_string, say_xml_value};
 use crate::test_text::say_test_in;
@@ -14,21 +14,9 @@ use res_value::kind;
 use sink::Sink;
 use std::io::Write;
 
-/// Says a node: a test behind `if`, or a leaf.
-pub(crate) fn say_node<W: Write + Drop>(
-    form: Form,
-    stack: &StackNames<'_, '_>,
-    node: &Node,
-    out: &mut Sink<'_, W>,
-)
-    ensures { Says W.contents out.old out.new (node_text form stack.now (node_of node.now)) }
-{
-    say_if(node, out);
-    say_node_label(form, stack, node, out);
-}
-
+/// Says what stands before a node in a line.
 #[tactic(auto, unfolding(crate::specs::TreeText::if_text))]
-fn say_if<W: Write + Drop>(node: &Node, out: &mut Sink<'_, W>)
+pub(crate) fn say_if<W: Write + Drop>(node: &Node, out: &mut Sink<'_, W>)
     ensures { Says W.contents out.old out.new (if_text (node_of node.now)) }
 {
     match node {

@@ -1,15 +1,12 @@
-use Rattle.sink.proofs.SaysSteps.{says}
-use Rattle.report_commands.specs.TreeText.{line_text, missing_line, node_line, unreached_line}
+use Rattle.std.proofs.Common.{ℕ, List, subst}
+use Rattle.sink.specs.Says.{Says}
+use Rattle.sink.proofs.SaysSteps.{Says-then}
+use Rattle.report_commands.specs.TreeLinesSeen.{line_of}
+use Rattle.report_commands.proofs.LinePartSteps.{line-parts}
 use Rattle.report_commands.proofs.line_text.say_line.Goals as goal
 
-pub returns-in-NodeAt : goal.returns-in-NodeAt
-unfolding line_text node_line
-returns-in-NodeAt g c = rw c.in-NodeAt.is (search says)
-
-pub returns-in-Unreached : goal.returns-in-Unreached
-unfolding line_text unreached_line
-returns-in-Unreached g c = rw c.in-Unreached.is (search says)
-
-pub returns-in-Missing : goal.returns-in-Missing
-unfolding line_text missing_line
-returns-in-Missing g c = rw c.in-Missing.is (search says)
+pub returns : goal.returns
+returns g c =
+    let said : List ℕ → Type 0 = Says g.W.Write.contents c.args.out.now c.say.new.self in
+    let to_shown = Says-then _ _ _ _ _ _ c.say_front.ensures c.say_shown.ensures in
+    subst said (line-parts c.args.form c.args.stack.now (line_of c.args.line.now)) (Says-then _ _ _ _ _ _ to_shown c.say.ensures)
