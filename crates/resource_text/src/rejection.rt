@@ -5,6 +5,7 @@ ghost use Rattle.std.specs.List.{flat_map};
 ghost use Rattle.std.specs.Option.{option_copied, option_map};
 ghost use Rattle.contract_words.specs.Writes.{Writes};
 ghost use Rattle.sink.specs.Says.{Says};
+ghost use Rattle.cert_maker.specs.cert_checker.Rule.{name_of, number_of};
 ghost use Rattle.cert_maker.specs.cert_tree.Certificate.{goal_of, goals_of};
 ghost use Rattle.cert_maker.specs.res_value.Goal.{goal_seen};
 ghost use Rattle.resource_text.specs.RejectionNotation.{claim_at, claim_in, claimed_line, fault_words, goal_or_place, rejected_notation, rejection_in, rejection_notation, rejections_in, rule_words, shown_notation, shown_of, verdict_in};
@@ -176,20 +177,30 @@ fn write_rejected<W: Write + Drop>(
 {
     out.write_all(b"rejected ")?;
     write_goal_or_place(naming, goals, goal, out)?;
-    write_fault(node, rule.number(), rule.name(), rule_words(rule), out)
+    write_fault(node, rule, out)
+}
+
+fn write_fault<W: Write + Drop>(node: usize, rule: Rule, out: &mut W) -> io::Result<()>
+    ensures { Writes W.contents out.old out.new result (fault_words node (number_of rule) (name_of rule) (rule_words rule)) }
+{
+    let mut sink = Sink::new(out);
+    say_fault(node, rule, &mut sink);
+    sink.end()
 }
 
 #[tactic(auto, unfolding(crate::specs::RejectionNotation::fault_words))]
-fn write_fault<W: Write + Drop>(
-    node: usize,
-    rule: u8,
-    name: &str,
-    words: &str,
-    out: &mut W,
-) -> io::Result<()>
-    ensures { Writes W.contents out.old out.new result (fault_words node rule name.now words.now) }
+fn say_fault<W: Write + Drop>(node: usize, rule: Rule, out: &mut Sink<'_, W>)
+    ensures { Says W.contents out.old out.new (fault_words node (number_of rule) (name_of rule) (rule_words rule)) }
 {
-    writeln!(out, " node {node} N{rule} {name}: {words}")
+    out.say(b" node ");
+    out.say_count(node);
+    out.say(b" N");
+    out.say_number(u32::from(rule.number()));
+    out.say(b" ");
+    out.say(rule.name().as_bytes());
+    out.say(b": ");
+    out.say(rule_words(rule).as_bytes());
+    out.say(b"\n");
 }
 
 fn write_goal_or_place<W: Write + Drop>(
