@@ -1,5 +1,6 @@
 pub mod Answering
 pub mod Written
+pub mod Unprinted
 pub mod QuerySteps
 pub mod SamePath
 pub mod Cited
