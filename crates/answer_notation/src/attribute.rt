@@ -1,20 +1,17 @@
 //! Which style sets an attribute, and where the attribute ends.
 
 ghost use Rattle.std.specs.Prelude.{◌≡◌, map, IfOk};
-ghost use Rattle.sink.specs.Says.{Says};
+ghost use Rattle.contract_words.specs.Writes.{Writes};
 ghost use Rattle.reference_resolver.specs.config_precedence.config_record.DeviceSeen.{device_numbers};
-ghost use Rattle.answer_notation.specs.Columns.{columns_text};
 ghost use Rattle.answer_notation.specs.ColumnsSeen.{line_of};
 ghost use Rattle.answer_notation.specs.AttrNotation.{is_undefined, may_set, set_after, set_after_rows, rows_of_style, setting_words, style_line, style_lines, slot_end, slot_notation, attr_notation};
 
-use crate::columns::{Line, say_columns};
-use crate::ends::{say_end, say_end_within};
-use crate::explanation::say_look_ups;
+use crate::columns::{Line, write_columns};
+use crate::ends::{write_end, write_end_within};
+use crate::explanation::write_look_ups;
 use crate::naming::Naming;
-use crate::said::{ended, sink_to};
 use answer_text::{BagFault, BagRow, End, ResId, Stack, bag, kind};
 use bags_themes::{Device, REFERENCES_FOLLOWED, Slot};
-use sink::Sink;
 use std::alloc::{AllocError, Global};
 use std::io::{self, Write};
 
@@ -34,51 +31,34 @@ pub fn attr_text(
     ensures { IfOk result (λ text. text.items ≡ attr_notation naming.now force attr.0 (device_numbers device.now) styles.now slot) }
 {
     let mut text = Vec::new(naming.alloc());
-    let mut sink = sink_to(&mut text);
-    say_attr(naming, device, force, attr, styles, slot, &mut sink);
-    ended(sink)?;
-    Ok(text)
+    match write_attr(naming, device, force, attr, styles, slot, &mut text) {
+        Ok(()) => Ok(text),
+        // To a `Vec` only a want of memory is a fault.
+        Err(_) => Err(AllocError),
+    }
 }
 
 #[tactic(auto, unfolding(crate::specs::AttrNotation::attr_notation))]
-fn say_attr<W: Write + Drop>(
+fn write_attr<W: Write + Drop>(
     naming: &Naming<'_, '_, '_>,
     device: &Device,
     force: bool,
     attr: ResId,
     styles: &[ResId],
     slot: Slot,
-    out: &mut Sink<'_, W>,
-)
-    ensures { Says W.contents out.old out.new (attr_notation naming.now force attr.0 (device_numbers device.now) styles.now slot) }
+    out: &mut W,
+) -> io::Result<()>
+    ensures { Writes W.contents out.old out.new result (attr_notation naming.now force attr.0 (device_numbers device.now) styles.now slot) }
 {
-    naming.say_id(attr, out);
-    out.say(b"\n");
-    say_styles(naming, device, force, attr, styles, out);
-    say_slot(naming, device, slot, out);
-    out.say(b"\n");
+    naming.write_id(attr, out)?;
+    out.write_all(b"\n")?;
+    let lines = style_lines(naming, device, force, attr, styles)?;
+    write_columns(&lines, out)?;
+    write_slot(naming, device, slot, out)?;
+    out.write_all(b"\n")
 }
 
 // ---- styles
-
-fn say_styles<W: Write + Drop>(
-    naming: &Naming<'_, '_, '_>,
-    device: &Device,
-    force: bool,
-    attr: ResId,
-    styles: &[ResId],
-    out: &mut Sink<'_, W>,
-)
-    ensures { Says W.contents out.old out.new
-        (columns_text (style_lines naming.now force attr.0 (device_numbers device.now) None styles.now)) }
-{
-    if out.is_whole() {
-        match style_lines(naming, device, force, attr, styles) {
-            Ok(lines) => say_columns(&lines, out),
-            Err(fault) => out.keep(Err(fault)),
-        }
-    }
-}
 
 fn style_lines(
     naming: &Naming<'_, '_, '_>,
@@ -181,8 +161,7 @@ fn style_line(
         Some(row) => {
             naming.write_value(row.layer, row.value, &mut line.config)?;
             naming.write_layer(row.layer, &mut line.value)?;
-            line.decision
-                .write_all(setting_words(force, set).as_bytes())?;
+            write_setting(force, set, &mut line.decision)?;
         }
         None => line.decision.write_all(b"not set")?,
     }
@@ -190,54 +169,54 @@ fn style_line(
 }
 
 #[tactic(auto, unfolding(crate::specs::AttrNotation::setting_words))]
-fn setting_words(force: bool, set: &Option<BagRow>) -> &'static str
-    ensures { result.now ≡ setting_words force set.now }
+fn write_setting<W: Write + Drop>(force: bool, set: &Option<BagRow>, out: &mut W) -> io::Result<()>
+    ensures { Writes W.contents out.old out.new result (setting_words force set.now) }
 {
     match set {
-        None => "first",
-        Some(_) if may_set(force, set) => "took over",
-        Some(_) => "kept out: set already",
+        None => out.write_all(b"first"),
+        Some(_) if may_set(force, set) => out.write_all(b"took over"),
+        Some(_) => out.write_all(b"kept out: set already"),
     }
 }
 
 // ---- the end
 
-// Says the look-ups of what a style refers to, and the end.
+// Writes the look-ups of what a style refers to, and the end.
 #[tactic(auto, unfolding(crate::specs::AttrNotation::slot_notation))]
-fn say_slot<W: Write + Drop>(
+fn write_slot<W: Write + Drop>(
     naming: &Naming<'_, '_, '_>,
     device: &Device,
     slot: Slot,
-    out: &mut Sink<'_, W>,
-)
-    ensures { Says W.contents out.old out.new (slot_notation naming.now (device_numbers device.now) slot) }
+    out: &mut W,
+) -> io::Result<()>
+    ensures { Writes W.contents out.old out.new result (slot_notation naming.now (device_numbers device.now) slot) }
 {
     match slot {
         Slot::Refers(target) => {
-            say_look_ups(naming, false, device, target, AFTER_SLOT, out);
-            say_end_within(naming, device, target, AFTER_SLOT, out);
+            write_look_ups(naming, false, device, target, AFTER_SLOT, out)?;
+            write_end_within(naming, device, target, AFTER_SLOT, out)
         }
-        Slot::Ends(end) => say_slot_end(naming, end, out),
+        Slot::Ends(end) => write_slot_end(naming, end, out),
     }
 }
 
-/// Says where an attribute ends.
+/// Writes where an attribute ends.
 #[tactic(auto, unfolding(crate::specs::AttrNotation::slot_end))]
-pub(crate) fn say_slot_end<W: Write + Drop>(
+pub(crate) fn write_slot_end<W: Write + Drop>(
     naming: &Naming<'_, '_, '_>,
     end: End,
-    out: &mut Sink<'_, W>,
-)
-    ensures { Says W.contents out.old out.new (slot_end naming.now end) }
+    out: &mut W,
+) -> io::Result<()>
+    ensures { Writes W.contents out.old out.new result (slot_end naming.now end) }
 {
     match end {
         End::Value { layer, value } => {
-            naming.say_value(layer, value, out);
-            out.say(b" from ");
-            naming.say_layer(layer, out);
+            naming.write_value(layer, value, out)?;
+            out.write_all(b" from ")?;
+            naming.write_layer(layer, out)
         }
         End::Bag { .. } | End::Absent { .. } | End::TooLong { .. } => {
-            say_end(naming, &None, end, out);
+            write_end(naming, &None, end, out)
         }
     }
 }

@@ -2,15 +2,13 @@
 
 ghost use Rattle.std.specs.Prelude.{◌≡◌, IfOk};
 ghost use Rattle.std.specs.List.{flat_map, enumerate_from};
-ghost use Rattle.sink.specs.Says.{Says};
+ghost use Rattle.contract_words.specs.Writes.{Writes};
 ghost use Rattle.answer_notation.specs.BagNotation.{row_told, rows_told};
 
 use crate::naming::Naming;
-use crate::said::{ended, sink_to};
 use answer_text::{BagRow, Keys, ResId};
-use sink::Sink;
 use std::alloc::AllocError;
-use std::io::Write;
+use std::io::{self, Write};
 
 /// A line for each row of the bag that an id selects, in their order.
 pub fn bag_text(
@@ -22,25 +20,27 @@ pub fn bag_text(
 {
     let keys = Keys::of(naming.stack(), id);
     let mut text = Vec::new(naming.alloc());
-    let mut sink = sink_to(&mut text);
-    say_rows(naming, keys, rows, &mut sink);
-    ended(sink)?;
-    Ok(text)
+    match write_rows(naming, keys, rows, &mut text) {
+        Ok(()) => Ok(text),
+        // To a `Vec` only a want of memory is a fault.
+        Err(_) => Err(AllocError),
+    }
 }
 
-#[tactic(auto, using(sink::proofs::SaysSteps::says_all))]
-fn say_rows<W: Write + Drop>(
+#[tactic(auto, using(answer_text::proofs::ItemSteps::item_steps))]
+fn write_rows<W: Write + Drop>(
     naming: &Naming<'_, '_, '_>,
     keys: Keys,
     rows: &[BagRow],
-    out: &mut Sink<'_, W>,
-)
-    ensures { Says W.contents out.old out.new (flat_map (row_told naming.now keys) (enumerate_from 0 rows.now)) }
+    out: &mut W,
+) -> io::Result<()>
+    ensures { Writes W.contents out.old out.new result (flat_map (row_told naming.now keys) (enumerate_from 0 rows.now)) }
 {
     for (place, row) in rows.iter().enumerate() {
-        naming.say_row(keys, place, *row, out);
-        out.say(b" from ");
-        naming.say_layer(row.layer, out);
-        out.say(b"\n");
+        naming.write_row(keys, place, *row, out)?;
+        out.write_all(b" from ")?;
+        naming.write_layer(row.layer, out)?;
+        out.write_all(b"\n")?;
     }
+    Ok(())
 }

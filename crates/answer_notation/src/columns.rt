@@ -2,13 +2,12 @@
 
 ghost use Rattle.std.specs.Prelude.{◌≡◌, ◌-◌, map, codes};
 ghost use Rattle.std.specs.List.{flat_map, repeat};
-ghost use Rattle.sink.specs.Says.{Says};
+ghost use Rattle.contract_words.specs.Writes.{Writes};
 ghost use Rattle.answer_notation.specs.Columns.{width_of, wider, widths_of, column_text, line_text, columns_text};
 ghost use Rattle.answer_notation.specs.ColumnsSeen.{line_of, widths_seen};
 
-use sink::Sink;
 use std::alloc::Global;
-use std::io::Write;
+use std::io::{self, Write};
 use std::str;
 use unicode_width::UnicodeWidthStr;
 
@@ -64,12 +63,12 @@ impl Widths {
     }
 }
 
-/// Says lines whose columns stand below one another.
+/// Writes lines whose columns stand below one another.
 #[tactic(auto, unfolding(crate::specs::Columns::columns_text))]
-pub(crate) fn say_columns<W: Write + Drop>(lines: &[Line], out: &mut Sink<'_, W>)
-    ensures { Says W.contents out.old out.new (columns_text (map line_of lines.now)) }
+pub(crate) fn write_columns<W: Write + Drop>(lines: &[Line], out: &mut W) -> io::Result<()>
+    ensures { Writes W.contents out.old out.new result (columns_text (map line_of lines.now)) }
 {
-    say_lines(widths_of(lines), lines, out);
+    write_lines(widths_of(lines), lines, out)
 }
 
 fn widths_of(lines: &[Line]) -> Widths
@@ -104,40 +103,42 @@ fn width_of(text: &[u8]) -> usize
     }
 }
 
-#[tactic(auto, using(sink::proofs::SaysSteps::says_slice))]
-fn say_lines<W: Write + Drop>(widths: Widths, lines: &[Line], out: &mut Sink<'_, W>)
-    ensures { Says W.contents out.old out.new (flat_map (line_text (widths_seen widths)) (map line_of lines.now)) }
+#[tactic(auto, using(contract_words::proofs::TextSteps::puts_slice))]
+fn write_lines<W: Write + Drop>(widths: Widths, lines: &[Line], out: &mut W) -> io::Result<()>
+    ensures { Writes W.contents out.old out.new result (flat_map (line_text (widths_seen widths)) (map line_of lines.now)) }
 {
     for line in lines {
-        say_line(widths, line, out);
+        write_line(widths, line, out)?;
     }
+    Ok(())
 }
 
 #[tactic(auto, unfolding(crate::specs::Columns::line_text))]
-fn say_line<W: Write + Drop>(widths: Widths, line: &Line, out: &mut Sink<'_, W>)
-    ensures { Says W.contents out.old out.new (line_text (widths_seen widths) (line_of line.now)) }
+fn write_line<W: Write + Drop>(widths: Widths, line: &Line, out: &mut W) -> io::Result<()>
+    ensures { Writes W.contents out.old out.new result (line_text (widths_seen widths) (line_of line.now)) }
 {
-    out.say(b"  ");
-    say_column(widths.layer, &line.layer, out);
-    say_column(widths.config, &line.config, out);
-    say_column(widths.value, &line.value, out);
-    out.say(&line.decision);
-    out.say(b"\n");
+    out.write_all(b"  ")?;
+    write_column(widths.layer, &line.layer, out)?;
+    write_column(widths.config, &line.config, out)?;
+    write_column(widths.value, &line.value, out)?;
+    out.write_all(&line.decision)?;
+    out.write_all(b"\n")
 }
 
 #[tactic(auto, unfolding(crate::specs::Columns::column_text))]
-fn say_column<W: Write + Drop>(width: usize, text: &[u8], out: &mut Sink<'_, W>)
-    ensures { Says W.contents out.old out.new (column_text width text.now) }
+fn write_column<W: Write + Drop>(width: usize, text: &[u8], out: &mut W) -> io::Result<()>
+    ensures { Writes W.contents out.old out.new result (column_text width text.now) }
 {
-    out.say(text);
-    say_spaces(width.saturating_sub(width_of(text)), out);
-    out.say(b"  ");
+    out.write_all(text)?;
+    write_spaces(width.saturating_sub(width_of(text)), out)?;
+    out.write_all(b"  ")
 }
 
-fn say_spaces<W: Write + Drop>(count: usize, out: &mut Sink<'_, W>)
-    ensures { Says W.contents out.old out.new (repeat count (codes " ")) }
+fn write_spaces<W: Write + Drop>(count: usize, out: &mut W) -> io::Result<()>
+    ensures { Writes W.contents out.old out.new result (repeat count (codes " ")) }
 {
     'spaces: for _ in 0..count {
-        out.say(b" ");
+        out.write_all(b" ")?;
     }
+    Ok(())
 }

@@ -3,21 +3,18 @@
 ghost use Rattle.std.specs.Prelude.{◌≡◌, map, IfOk};
 ghost use Rattle.std.specs.List.{flat_map};
 ghost use Rattle.contract_words.specs.Writes.{Writes};
-ghost use Rattle.sink.specs.Says.{Says};
 ghost use Rattle.config_box.specs.Tests.{choice_of};
 ghost use Rattle.reference_resolver.specs.config_precedence.config_record.DeviceSeen.{device_numbers};
 ghost use Rattle.res_value.specs.Goal.{goal_seen};
 ghost use Rattle.answer_notation.specs.DeviceNotation.{alone, device_line, device_notation, devices_notation, differ_at, or_any, qualifier_text, qualifiers_text, word_at};
 
-use crate::goal::say_goal_end;
+use crate::goal::write_goal_end;
 use crate::look_ups::{push_goal, some_has};
 use crate::naming::Naming;
-use crate::said::{ended, sink_to};
 use bags_themes::{Coord, Device, ResId, Stack};
 use config_box::{Choice, Test};
 use notation::write_test;
 use res_value::Goal;
-use sink::Sink;
 use std::alloc::{AllocError, Global};
 use std::io::{self, Write};
 
@@ -34,9 +31,7 @@ pub fn write_device<W: Write + Drop>(
     let alloc = naming.alloc();
     let mut ids = Vec::new(alloc);
     push_goal(alloc, naming.stack(), goal, device, &mut ids)?;
-    let mut sink = Sink::new(out);
-    say_device_line(naming, goal, &ids, device, device, &mut sink);
-    sink.end()
+    write_device_line(naming, goal, &ids, device, device, out)
 }
 
 /// The same of two devices. Where they differ, both are marked.
@@ -55,57 +50,37 @@ pub fn write_two_devices<W: Write + Drop>(
     let mut ids = Vec::new(alloc);
     push_goal(alloc, naming.stack(), goal, first, &mut ids)?;
     push_goal(alloc, naming.stack(), goal, second, &mut ids)?;
-    let mut sink = Sink::new(out);
-    say_device_line(naming, goal, &ids, second, first, &mut sink);
-    say_device_line(naming, goal, &ids, first, second, &mut sink);
-    sink.end()
+    write_device_line(naming, goal, &ids, second, first, out)?;
+    write_device_line(naming, goal, &ids, first, second, out)
 }
 
 #[tactic(auto, unfolding(crate::specs::DeviceNotation::device_line))]
-fn say_device_line<W: Write + Drop>(
+fn write_device_line<W: Write + Drop>(
     naming: &Naming<'_, '_, '_>,
     goal: &Goal,
     ids: &[ResId],
     other: &Device,
     device: &Device,
-    out: &mut Sink<'_, W>,
-)
-    ensures { Says W.contents out.old out.new (device_line naming.now (goal_seen goal.now) (map (λ id. id.0) ids.now)
+    out: &mut W,
+) -> io::Result<()>
+    ensures { Writes W.contents out.old out.new result (device_line naming.now (goal_seen goal.now) (map (λ id. id.0) ids.now)
         (device_numbers other.now) (device_numbers device.now)) }
 {
-    out.say(b"  on");
-    say_qualifiers_or_any(naming.alloc(), naming.stack(), ids, other, device, out);
-    out.say(b": ");
-    say_goal_end(naming, goal, device, out);
-    out.say(b"\n");
+    let words = qualifiers(naming.alloc(), naming.stack(), ids, other, device)?;
+    out.write_all(b"  on")?;
+    write_or_any(&words, out)?;
+    out.write_all(b": ")?;
+    write_goal_end(naming, goal, device, out)?;
+    out.write_all(b"\n")
 }
 
-fn say_qualifiers_or_any<W: Write + Drop>(
-    alloc: Global,
-    stack: &Stack<'_>,
-    ids: &[ResId],
-    other: &Device,
-    device: &Device,
-    out: &mut Sink<'_, W>,
-)
-    ensures { Says W.contents out.old out.new
-        (or_any (qualifiers_text stack.now (map (λ id. id.0) ids.now) (device_numbers other.now) (device_numbers device.now))) }
-{
-    if out.is_whole() {
-        match qualifiers(alloc, stack, ids, other, device) {
-            Ok(words) => out.say(or_any(&words)),
-            Err(fault) => out.keep(Err(fault.into())),
-        }
-    }
-}
-
-fn or_any(words: &[u8]) -> &[u8]
-    ensures { result.now ≡ or_any words.now }
+fn write_or_any<W: Write + Drop>(words: &[u8], out: &mut W) -> io::Result<()>
+    ensures { Writes W.contents out.old out.new result (or_any words.now) }
 {
     if words.is_empty() {
-        b" any device"
+        out.write_all(b" any device")
     } else {
-        words
+        out.write_all(words)
     }
 }
 
@@ -116,54 +91,55 @@ fn qualifiers(
     ids: &[ResId],
     other: &Device,
     device: &Device,
-) -> Result<Vec<u8>, AllocError>
+) -> io::Result<Vec<u8>>
     ensures { IfOk result (λ text. text.items ≡ qualifiers_text stack.now (map (λ id. id.0) ids.now) (device_numbers other.now) (device_numbers device.now)) }
 {
     let mut text = Vec::new(alloc);
-    let mut sink = sink_to(&mut text);
-    say_qualifiers(alloc, stack, ids, other, device, &Coord::ALL, &mut sink);
-    ended(sink)?;
+    write_qualifiers(alloc, stack, ids, other, device, &Coord::ALL, &mut text)?;
     Ok(text)
 }
 
-#[tactic(auto, using(sink::proofs::SaysSteps::says_all))]
-fn say_qualifiers<W: Write + Drop>(
+#[tactic(auto, using(contract_words::proofs::TextSteps::puts))]
+fn write_qualifiers<W: Write + Drop>(
     alloc: Global,
     stack: &Stack<'_>,
     ids: &[ResId],
     other: &Device,
     device: &Device,
     coords: &[Coord],
-    out: &mut Sink<'_, W>,
-)
-    ensures { Says W.contents out.old out.new
+    out: &mut W,
+) -> io::Result<()>
+    ensures { Writes W.contents out.old out.new result
         (flat_map (qualifier_text stack.now (map (λ id. id.0) ids.now) (device_numbers other.now) (device_numbers device.now)) coords.now) }
 {
     for coord in coords {
-        say_qualifier(alloc, stack, ids, other, device, *coord, out);
+        write_qualifier(alloc, stack, ids, other, device, *coord, out)?;
     }
+    Ok(())
 }
 
 #[tactic(auto, unfolding(crate::specs::DeviceNotation::qualifier_text))]
-fn say_qualifier<W: Write + Drop>(
+fn write_qualifier<W: Write + Drop>(
     alloc: Global,
     stack: &Stack<'_>,
     ids: &[ResId],
     other: &Device,
     device: &Device,
     coord: Coord,
-    out: &mut Sink<'_, W>,
-)
-    ensures { Says W.contents out.old out.new
+    out: &mut W,
+) -> io::Result<()>
+    ensures { Writes W.contents out.old out.new result
         (qualifier_text stack.now (map (λ id. id.0) ids.now) (device_numbers other.now) (device_numbers device.now) coord) }
 {
     if differ_at(device, other, coord) {
-        out.say(b" *");
-        say_word(alloc, device, coord, out);
-        out.say(b"*");
+        out.write_all(b" *")?;
+        write_word(alloc, device, coord, out)?;
+        out.write_all(b"*")
     } else if some_has(stack, ids, coord) {
-        out.say(b" ");
-        say_word(alloc, device, coord, out);
+        out.write_all(b" ")?;
+        write_word(alloc, device, coord, out)
+    } else {
+        Ok(())
     }
 }
 
@@ -173,16 +149,7 @@ fn differ_at(device: &Device, other: &Device, coord: Coord) -> bool
     device.compared_number(coord) != other.compared_number(coord)
 }
 
-// Says what a device has at a coordinate, as the list of it alone.
-fn say_word<W: Write + Drop>(alloc: Global, device: &Device, coord: Coord, out: &mut Sink<'_, W>)
-    ensures { Says W.contents out.old out.new (word_at (device_numbers device.now) coord) }
-{
-    if out.is_whole() {
-        let wrote = write_word(alloc, device, coord, out.writer);
-        out.keep(wrote);
-    }
-}
-
+// What a device has at a coordinate, as the list of it alone.
 #[tactic(auto, unfolding(crate::specs::DeviceNotation::word_at))]
 fn write_word<W: Write + Drop>(
     alloc: Global,

@@ -1,9 +1,8 @@
 //! How an id comes to its end.
 
-ghost use Rattle.std.specs.Prelude.{◌≡◌, ◌==◌, [], IfOk, codes, map, if◌then◌else◌};
+ghost use Rattle.std.specs.Prelude.{◌≡◌, IfOk, map};
 ghost use Rattle.std.specs.List.{flat_map};
 ghost use Rattle.contract_words.specs.Writes.{Writes};
-ghost use Rattle.sink.specs.Says.{Says};
 ghost use Rattle.reference_resolver.specs.config_precedence.config_record.DeviceSeen.{device_numbers};
 ghost use Rattle.res_value.specs.Cell.{cell_of};
 ghost use Rattle.reference_resolver.specs.Trace.{look_ups_of, traced, scan_look_up};
@@ -11,15 +10,13 @@ ghost use Rattle.answer_notation.specs.ColumnsSeen.{line_of};
 ghost use Rattle.answer_notation.specs.ExplainNotation.{held_notation, traced_line, matches, is_shown, shown_lines, hidden_line, candidates_notation, look_up_notation, explain_notation};
 ghost use Rattle.answer_notation.specs.TracedSeen.{traced_of};
 
-use crate::columns::{Line, say_columns};
+use crate::columns::{Line, write_columns};
 use crate::decision_words::write_decision;
-use crate::ends::say_end_within;
+use crate::ends::write_end_within;
 use crate::naming::Naming;
-use crate::said::{ended, sink_to};
 use bags_themes::{Cand, Cell, Decision, Device, Next, REFERENCES_FOLLOWED, ResId, Stack};
 use notation::write_config;
 use reference_resolver::select;
-use sink::Sink;
 use std::alloc::{AllocError, Global};
 use std::io::{self, Write};
 
@@ -41,38 +38,39 @@ pub fn explain_text(
     ensures { IfOk result (λ text. text.items ≡ explain_notation naming.now all (device_numbers device.now) id.0) }
 {
     let mut text = Vec::new(naming.alloc());
-    let mut sink = sink_to(&mut text);
-    say_explanation(naming, all, device, id, &mut sink);
-    ended(sink)?;
-    Ok(text)
+    match write_explanation(naming, all, device, id, &mut text) {
+        Ok(()) => Ok(text),
+        // To a `Vec` only a want of memory is a fault.
+        Err(_) => Err(AllocError),
+    }
 }
 
-// Says the same.
+/// Writes the same.
 #[tactic(auto, unfolding(crate::specs::ExplainNotation::explain_notation))]
-fn say_explanation<W: Write + Drop>(
+pub(crate) fn write_explanation<W: Write + Drop>(
     naming: &Naming<'_, '_, '_>,
     all: bool,
     device: &Device,
     id: ResId,
-    out: &mut Sink<'_, W>,
-)
-    ensures { Says W.contents out.old out.new (explain_notation naming.now all (device_numbers device.now) id.0) }
+    out: &mut W,
+) -> io::Result<()>
+    ensures { Writes W.contents out.old out.new result (explain_notation naming.now all (device_numbers device.now) id.0) }
 {
-    say_look_ups(naming, all, device, id, REFERENCES_FOLLOWED, out);
-    say_end_within(naming, device, id, REFERENCES_FOLLOWED, out);
-    out.say(b"\n");
+    write_look_ups(naming, all, device, id, REFERENCES_FOLLOWED, out)?;
+    write_end_within(naming, device, id, REFERENCES_FOLLOWED, out)?;
+    out.write_all(b"\n")
 }
 
-/// Says each look-up, where at most so many references are followed.
-pub(crate) fn say_look_ups<W: Write + Drop>(
+/// Writes each look-up, where at most so many references are followed.
+pub(crate) fn write_look_ups<W: Write + Drop>(
     naming: &Naming<'_, '_, '_>,
     all: bool,
     device: &Device,
     id: ResId,
     most: u8,
-    out: &mut Sink<'_, W>,
-)
-    ensures { Says W.contents out.old out.new (flat_map
+    out: &mut W,
+) -> io::Result<()>
+    ensures { Writes W.contents out.old out.new result (flat_map
         (look_up_notation naming.now all (device_numbers device.now))
         (look_ups_of naming.now.stack most id.0 (device_numbers device.now))) }
 {
@@ -80,9 +78,9 @@ pub(crate) fn say_look_ups<W: Write + Drop>(
     let mut id = id;
     let mut left = most;
     'chain: loop {
-        say_look_up(naming, all, device, id, out);
+        write_look_up(naming, all, device, id, out)?;
         match Next::of(id, &select(stack, id, device)).cut_off(left) {
-            Next::EndsAt(_) => return,
+            Next::EndsAt(_) => return Ok(()),
             Next::LookUp(target) => id = target,
         }
         left -= 1;
@@ -90,55 +88,19 @@ pub(crate) fn say_look_ups<W: Write + Drop>(
 }
 
 #[tactic(auto, unfolding(crate::specs::ExplainNotation::look_up_notation))]
-fn say_look_up<W: Write + Drop>(
-    naming: &Naming<'_, '_, '_>,
-    all: bool,
-    device: &Device,
-    id: ResId,
-    out: &mut Sink<'_, W>,
-)
-    ensures { Says W.contents out.old out.new (look_up_notation naming.now all (device_numbers device.now) id.0) }
-{
-    naming.say_id(id, out);
-    out.say(b"\n");
-    say_candidates(naming, all, device, id, out);
-}
-
-// Says the lines of the candidates of an id.
-fn say_candidates<W: Write + Drop>(
-    naming: &Naming<'_, '_, '_>,
-    all: bool,
-    device: &Device,
-    id: ResId,
-    out: &mut Sink<'_, W>,
-)
-    ensures { Says W.contents out.old out.new
-        (candidates_notation naming.now all (scan_look_up traced naming.now.stack (device_numbers device.now) id.0)) }
-{
-    if out.is_whole() {
-        let wrote = write_candidates(naming, all, device, id, out.writer);
-        out.keep(wrote);
-    }
-}
-
-#[tactic(auto, unfolding(crate::specs::ExplainNotation::candidates_notation))]
-fn write_candidates<W: Write + Drop>(
+fn write_look_up<W: Write + Drop>(
     naming: &Naming<'_, '_, '_>,
     all: bool,
     device: &Device,
     id: ResId,
     out: &mut W,
 ) -> io::Result<()>
-    ensures { Writes W.contents out.old out.new result
-        (candidates_notation naming.now all (scan_look_up traced naming.now.stack (device_numbers device.now) id.0)) }
+    ensures { Writes W.contents out.old out.new result (look_up_notation naming.now all (device_numbers device.now) id.0) }
 {
+    naming.write_id(id, out)?;
+    out.write_all(b"\n")?;
     let candidates = traced_candidates(naming.alloc(), naming.stack(), id, device)?;
-    let lines = shown_lines(naming, all, &candidates)?;
-    let hidden = candidates.len().saturating_sub(lines.len());
-    let mut sink = Sink::new(out);
-    say_columns(&lines, &mut sink);
-    say_hidden(lines.len(), hidden, &mut sink);
-    sink.end()
+    write_candidates(naming, all, &candidates, out)
 }
 
 // The candidates of an id, with what each does.
@@ -161,6 +123,24 @@ fn traced_candidates<'a>(
         best = decision.step().best_after(best, candidate);
     }
     Ok(traced)
+}
+
+#[tactic(auto, unfolding(crate::specs::ExplainNotation::candidates_notation))]
+fn write_candidates<W: Write + Drop>(
+    naming: &Naming<'_, '_, '_>,
+    all: bool,
+    candidates: &[Traced<'_>],
+    out: &mut W,
+) -> io::Result<()>
+    ensures { Writes W.contents out.old out.new result (candidates_notation naming.now all (map traced_of candidates.now)) }
+{
+    let lines = shown_lines(naming, all, candidates)?;
+    write_columns(&lines, out)?;
+    write_hidden(
+        lines.len(),
+        candidates.len().saturating_sub(lines.len()),
+        out,
+    )
 }
 
 // The lines of those that match, or of all.
@@ -228,31 +208,15 @@ fn write_held<W: Write + Drop>(
     }
 }
 
-// Says how many candidates do not match, where that is not shown of each.
+// Writes how many candidates do not match, where that is not shown of each.
 #[tactic(auto, unfolding(crate::specs::ExplainNotation::hidden_line))]
-fn say_hidden<W: Write + Drop>(shown: usize, hidden: usize, out: &mut Sink<'_, W>)
-    ensures { Says W.contents out.old out.new (hidden_line shown hidden) }
+fn write_hidden<W: Write + Drop>(shown: usize, hidden: usize, out: &mut W) -> io::Result<()>
+    ensures { Writes W.contents out.old out.new result (hidden_line shown hidden) }
 {
-    if hidden != 0 {
-        out.say(b"  ");
-        out.say_count(hidden);
-        out.say(more_word(shown));
-        out.say(b" ");
-        out.say(rows_words(hidden));
-        out.say(b" not match");
-        out.say(b"\n");
+    if hidden == 0 {
+        return Ok(());
     }
-}
-
-// Behind no other line they are not more.
-fn more_word(shown: usize) -> &'static [u8]
-    ensures { result.now ≡ if shown == 0 then [] else codes " more" }
-{
-    if shown == 0 { b"" } else { b" more" }
-}
-
-fn rows_words(hidden: usize) -> &'static [u8]
-    ensures { result.now ≡ if hidden == 1 then codes "row does" else codes "rows do" }
-{
-    if hidden == 1 { b"row does" } else { b"rows do" }
+    let more = if shown == 0 { "" } else { " more" };
+    let rows = if hidden == 1 { "row does" } else { "rows do" };
+    writeln!(out, "  {hidden}{more} {rows} not match")
 }

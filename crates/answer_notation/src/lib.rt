@@ -24,7 +24,6 @@ mod lone_table;
 mod look_ups;
 mod naming;
 mod rows;
-mod said;
 mod table_row;
 
 pub use attribute::attr_text;

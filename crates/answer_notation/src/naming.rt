@@ -11,7 +11,6 @@ use answer_text::{
     write_row_notation, write_value_notation,
 };
 use names::{NamedStack, PackageNames, write_quoted};
-use sink::Sink;
 use std::alloc::{AllocError, Global};
 use std::io::{self, Write};
 use std::marker::Model;
@@ -40,7 +39,6 @@ impl<'s, 'a, 'p> Model for Naming<'s, 'a, 'p> {
 impl<'s, 'a, 'p> Naming<'s, 'a, 'p> {
     ghost use Rattle.std.specs.Prelude.{◌≡◌, map, string_bytes, IfOk};
     ghost use Rattle.contract_words.specs.Writes.{Writes};
-    ghost use Rattle.sink.specs.Says.{Says};
     ghost use Rattle.answer_notation.specs.Naming.{id_notation, value_at, key_and_value, row_at, layer_notation};
     ghost use Rattle.answer_text.specs.ContentSeen.{row_key_of};
     ghost use Rattle.answer_text.specs.ValueContent.{value_content};
@@ -86,16 +84,6 @@ impl<'s, 'a, 'p> Naming<'s, 'a, 'p> {
         written
     }
 
-    /// Says what an id is called.
-    pub(crate) fn say_id<W: Write + Drop>(&self, id: ResId, out: &mut Sink<'_, W>)
-        ensures { Says W.contents out.old out.new (id_notation self.now id.0) }
-    {
-        if out.is_whole() {
-            let wrote = self.write_id(id, out.writer);
-            out.keep(wrote);
-        }
-    }
-
     /// Writes what a value says that a row of the layer at a place holds.
     #[tactic(auto, unfolding(crate::specs::Naming::value_at))]
     pub(crate) fn write_value<W: Write + Drop>(
@@ -112,39 +100,9 @@ impl<'s, 'a, 'p> Naming<'s, 'a, 'p> {
         written
     }
 
-    /// Says what a value says that a row of the layer at a place holds.
-    pub(crate) fn say_value<W: Write + Drop>(
-        &self,
-        layer: usize,
-        value: Value,
-        out: &mut Sink<'_, W>,
-    )
-        ensures { Says W.contents out.old out.new (value_at self.now layer value) }
-    {
-        if out.is_whole() {
-            let wrote = self.write_value(layer, value, out.writer);
-            out.keep(wrote);
-        }
-    }
-
-    /// Says the row of a bag at a place: what tells it from the others, and what it says.
-    pub(crate) fn say_row<W: Write + Drop>(
-        &self,
-        keys: Keys,
-        place: usize,
-        row: BagRow,
-        out: &mut Sink<'_, W>,
-    )
-        ensures { Says W.contents out.old out.new (row_at self.now keys place row) }
-    {
-        if out.is_whole() {
-            let wrote = self.write_row(keys, place, row, out.writer);
-            out.keep(wrote);
-        }
-    }
-
+    /// Writes the row of a bag at a place: what tells it from the others, and what it says.
     #[tactic(auto, unfolding(crate::specs::Naming::row_at))]
-    fn write_row<W: Write + Drop>(
+    pub(crate) fn write_row<W: Write + Drop>(
         &self,
         keys: Keys,
         place: usize,
@@ -184,16 +142,6 @@ impl<'s, 'a, 'p> Naming<'s, 'a, 'p> {
         match self.paths.get(place) {
             Some(path) => write_path(path.as_str(), out),
             None => write_layer(place, out),
-        }
-    }
-
-    /// Says the path of the table of the layer at a place.
-    pub(crate) fn say_layer<W: Write + Drop>(&self, place: usize, out: &mut Sink<'_, W>)
-        ensures { Says W.contents out.old out.new (layer_notation self.now place) }
-    {
-        if out.is_whole() {
-            let wrote = self.write_layer(place, out.writer);
-            out.keep(wrote);
         }
     }
 }

@@ -1,4 +1,3 @@
-pub mod Said
 pub mod Stopped
 pub mod Opening
 pub mod Asked

@@ -1,5 +1,6 @@
 -- What is printed of rows tells what becomes of them.
-use Rattle.std.proofs.Common.{◌≡◌, ℕ, List, Option, Some, None, Result, Ok, Err, IfSome, ◌++◌, nat_lt, map, option_map, refl, sym, ap}
+use Rattle.std.proofs.Common.{◌≡◌, ℕ, List, Option, Some, None, Result, Ok, Err, IfSome, ◌++◌, nat_lt, map, option_map, refl, sym}
+use Rattle.std.proofs.KnownBytes.{Appends-trans}
 use Rattle.std.specs.Io.KnownBytes.{Appends}
 use Rattle.std.specs.List.{enumerate_from, flat_map, zip}
 use Rattle.command_base.specs.FileWords.{set_asked}
@@ -39,12 +40,13 @@ unfolding unused_opened
 unused-with rule layers box_json words sets opened asked held read found = rw (held, read, found) refl
 
 -- the lines, and then the totals
-pub lines-then-totals : {W : Type 0} (contents : W → Option (List ℕ)) (old new : W) (stack : List LayerOf) (uses : List Uses) (totals : Totals) (lines : List ℕ) (status : Status)
+pub lines-then-totals : (before between after : Option (List ℕ)) (stack : List LayerOf) (uses : List Uses) (totals : Totals) (lines : List ℕ) (status : Status)
     → lines ≡ flat_map layer_lines (enumerate_from 0 (zip stack uses)) → totals ≡ totals_of stack uses → status ≡ negative_if (nat_lt 0 totals.unused)
-    → Appends (contents old) (contents new) (lines ++ totals_line totals) → Prints contents old new (Ok status) (Ok (unused_output stack (Some uses)))
-lines-then-totals contents old new stack uses totals lines status told counted ends put =
+    → Appends before between lines → Appends between after (totals_line totals)
+    → (text : List ℕ) × (unused_output stack (Some uses) ≡ record { status = status; text = text }) × Appends before after text
+lines-then-totals before between after stack uses totals lines status told counted ends put last =
     let same : unused_output stack (Some uses) ≡ record { status = status; text = lines ++ totals_line totals } = rw (told, ends, counted) refl in
-    (lines ++ totals_line totals, ap (λ output. Ok output) same, put)
+    (lines ++ totals_line totals, same, Appends-trans before between after lines (totals_line totals) put last)
 
 -- ids in slices, by their numbers
 pub numbers-of-slices : {A : Type 0} (now : A → List ResId) (slice : Option A) → option_map (λ ids. map (λ id. id.0) (now ids)) slice ≡ numbers_of (option_map now slice)

@@ -3,18 +3,16 @@
 ghost use Rattle.std.specs.Prelude.{◌≡◌, map, IfOk};
 ghost use Rattle.std.specs.List.{flat_map};
 ghost use Rattle.contract_words.specs.Writes.{Writes};
-ghost use Rattle.sink.specs.Says.{Says};
 ghost use Rattle.stack_diff.specs.names.Pairs.{pair_of};
 ghost use Rattle.stack_diff.specs.Stacks.{stacks_of};
 ghost use Rattle.diff_command.specs.JsonLines.{name_json, name_line, said_line, lines_of_name, lines_of_names, counts_json, count_json, count_json_unless_0, diff_json, values_json};
 ghost use Rattle.diff_command.specs.Judged.{told_of};
 
-use crate::lines::{same_count, say_sum};
+use crate::lines::same_count;
 use crate::stack_counts::StackCounts;
 use crate::told::Told;
 use command_base::LocaleRule;
 use resource_text::name_json;
-use sink::Sink;
 use stack_diff::{NamePair, PackageNames, Stacks};
 use std::alloc::{AllocError, Global};
 use std::io::{self, Write};
@@ -35,25 +33,12 @@ pub(crate) fn write_diff_json<W: Write + Drop>(
 {
     let old = StackCounts::of(stacks.old_stack(), rule);
     let new = StackCounts::of(stacks.new_stack(), rule);
-    let same = same_count(told) as u128;
-    let mut sink = Sink::new(out);
-    say_names(b"{\"line\":\"changed\",\"name\":", names, told, &mut sink);
+    write_names(b"{\"line\":\"changed\",\"name\":", names, told, out)?;
     let (before, after) = (old.shared_names, new.shared_names);
-    say_counts(
-        b"{\"line\":\"shared-names\",\"new\":",
-        before,
-        after,
-        &mut sink,
-    );
+    write_counts(b"{\"line\":\"shared-names\",\"new\":", before, after, out)?;
     let (before, after) = (old.set_aside, new.set_aside);
-    say_counts(
-        b"{\"line\":\"set-aside\",\"new\":",
-        before,
-        after,
-        &mut sink,
-    );
-    say_count(same, b",\"line\":\"same\"}\n", &mut sink);
-    sink.end()
+    write_counts(b"{\"line\":\"set-aside\",\"new\":", before, after, out)?;
+    write_count(same_count(told) as u128, b",\"line\":\"same\"}\n", out)
 }
 
 // ---- one stack
@@ -71,20 +56,10 @@ pub(crate) fn write_values_json<W: Write + Drop>(
     ensures { Writes W.contents out.old out.new result (values_json rule (stacks_of stacks.entry) (map pair_of pairs.now) (map told_of told.now)) }
 {
     let counts = StackCounts::of(stacks.new_stack(), rule);
-    let mut sink = Sink::new(out);
-    say_names(b"{\"line\":\"value\",\"name\":", names, told, &mut sink);
-    say_count_unless_0(
-        counts.shared_names,
-        b",\"line\":\"shared-names\"}\n",
-        &mut sink,
-    );
-    say_count_unless_0(counts.set_aside, b",\"line\":\"set-aside\"}\n", &mut sink);
-    say_count(
-        pairs.len() as u128,
-        b",\"line\":\"resources\"}\n",
-        &mut sink,
-    );
-    sink.end()
+    write_names(b"{\"line\":\"value\",\"name\":", names, told, out)?;
+    write_count_unless_0(counts.shared_names, b",\"line\":\"shared-names\"}\n", out)?;
+    write_count_unless_0(counts.set_aside, b",\"line\":\"set-aside\"}\n", out)?;
+    write_count(pairs.len() as u128, b",\"line\":\"resources\"}\n", out)
 }
 
 // ---- names
@@ -105,93 +80,109 @@ pub(crate) fn names_json(
     Ok(names)
 }
 
-// Says the lines of names, of which those begin so that tell what a name says.
-#[tactic(auto, unfolding(crate::specs::JsonLines::lines_of_names), using(sink::proofs::SaysSteps::says_all))]
-fn say_names<W: Write + Drop>(begin: &[u8], names: &[Vec<u8>], told: &[Told], out: &mut Sink<'_, W>)
-    ensures { Says W.contents out.old out.new (lines_of_names begin.now (map (λ name. name.items) names.now) (map told_of told.now)) }
+// Writes the lines of names, of which those begin so that tell what a name says.
+#[tactic(auto, unfolding(crate::specs::JsonLines::lines_of_names), using(contract_words::proofs::TextSteps::puts))]
+fn write_names<W: Write + Drop>(
+    begin: &[u8],
+    names: &[Vec<u8>],
+    told: &[Told],
+    out: &mut W,
+) -> io::Result<()>
+    ensures { Writes W.contents out.old out.new result (lines_of_names begin.now (map (λ name. name.items) names.now) (map told_of told.now)) }
 {
     for (place, name) in names.iter().enumerate() {
         let Some(one) = told.get(place) else {
-            return;
+            return Ok(());
         };
-        say_told(begin, name, one, out);
+        write_told(begin, name, one, out)?;
     }
+    Ok(())
 }
 
 #[tactic(auto, unfolding(crate::specs::JsonLines::lines_of_name))]
-fn say_told<W: Write + Drop>(begin: &[u8], name: &[u8], told: &Told, out: &mut Sink<'_, W>)
-    ensures { Says W.contents out.old out.new (lines_of_name begin.now name.now (told_of told.now)) }
+fn write_told<W: Write + Drop>(
+    begin: &[u8],
+    name: &[u8],
+    told: &Told,
+    out: &mut W,
+) -> io::Result<()>
+    ensures { Writes W.contents out.old out.new result (lines_of_name begin.now name.now (told_of told.now)) }
 {
     match told {
-        Told::Removed => say_name(b"{\"line\":\"removed\",\"name\":", name, out),
-        Told::Added => say_name(b"{\"line\":\"added\",\"name\":", name, out),
-        Told::Same => {}
-        Told::Changed(blocks) => say_all_said(begin, name, blocks, out),
+        Told::Removed => write_name(b"{\"line\":\"removed\",\"name\":", name, out),
+        Told::Added => write_name(b"{\"line\":\"added\",\"name\":", name, out),
+        Told::Same => Ok(()),
+        Told::Changed(blocks) => write_all_said(begin, name, blocks, out),
     }
 }
 
-fn say_name<W: Write + Drop>(begin: &[u8], name: &[u8], out: &mut Sink<'_, W>)
-    ensures { Says W.contents out.old out.new (name_line begin.now name.now) }
+fn write_name<W: Write + Drop>(begin: &[u8], name: &[u8], out: &mut W) -> io::Result<()>
+    ensures { Writes W.contents out.old out.new result (name_line begin.now name.now) }
 {
-    out.say(begin);
-    out.say(name);
-    out.say(b"}\n");
+    out.write_all(begin)?;
+    out.write_all(name)?;
+    out.write_all(b"}\n")
 }
 
-#[tactic(auto, using(sink::proofs::SaysSteps::says_slice))]
-fn say_all_said<W: Write + Drop>(
+#[tactic(auto, using(contract_words::proofs::TextSteps::puts_slice))]
+fn write_all_said<W: Write + Drop>(
     begin: &[u8],
     name: &[u8],
     blocks: &[Vec<u8>],
-    out: &mut Sink<'_, W>,
-)
-    ensures { Says W.contents out.old out.new (flat_map (said_line begin.now name.now) (map (λ block. block.items) blocks.now)) }
+    out: &mut W,
+) -> io::Result<()>
+    ensures { Writes W.contents out.old out.new result (flat_map (said_line begin.now name.now) (map (λ block. block.items) blocks.now)) }
 {
     for block in blocks {
-        say_said(begin, name, block, out);
+        write_said(begin, name, block, out)?;
     }
+    Ok(())
 }
 
-fn say_said<W: Write + Drop>(begin: &[u8], name: &[u8], said: &[u8], out: &mut Sink<'_, W>)
-    ensures { Says W.contents out.old out.new (said_line begin.now name.now said.now) }
+fn write_said<W: Write + Drop>(
+    begin: &[u8],
+    name: &[u8],
+    said: &[u8],
+    out: &mut W,
+) -> io::Result<()>
+    ensures { Writes W.contents out.old out.new result (said_line begin.now name.now said.now) }
 {
-    out.say(begin);
-    out.say(name);
-    out.say(b",\"says\":");
-    out.say(said);
-    out.say(b"}\n");
+    out.write_all(begin)?;
+    out.write_all(name)?;
+    out.write_all(b",\"says\":")?;
+    out.write_all(said)?;
+    out.write_all(b"}\n")
 }
 
 // ---- counts
 
-// Says a count of either stack, if one of them is not 0.
-fn say_counts<W: Write + Drop>(begin: &[u8], old: u128, new: u128, out: &mut Sink<'_, W>)
-    ensures { Says W.contents out.old out.new (counts_json begin.now old new) }
+// Writes a count of either stack, if one of them is not 0.
+#[tactic(auto, unfolding(crate::specs::JsonLines::counts_json))]
+fn write_counts<W: Write + Drop>(begin: &[u8], old: u128, new: u128, out: &mut W) -> io::Result<()>
+    ensures { Writes W.contents out.old out.new result (counts_json begin.now old new) }
 {
     if old == 0 && new == 0 {
-        return;
+        return Ok(());
     }
-    out.say(begin);
-    say_sum(new, out);
-    out.say(b",\"old\":");
-    say_sum(old, out);
-    out.say(b"}\n");
+    out.write_all(begin)?;
+    writeln!(out, "{new},\"old\":{old}}}")
 }
 
-// Says a count, if it is not 0.
+// Writes a count, if it is not 0.
 #[tactic(auto, unfolding(crate::specs::JsonLines::count_json_unless_0))]
-fn say_count_unless_0<W: Write + Drop>(count: u128, end: &[u8], out: &mut Sink<'_, W>)
-    ensures { Says W.contents out.old out.new (count_json_unless_0 count end.now) }
+fn write_count_unless_0<W: Write + Drop>(count: u128, end: &[u8], out: &mut W) -> io::Result<()>
+    ensures { Writes W.contents out.old out.new result (count_json_unless_0 count end.now) }
 {
-    if count != 0 {
-        say_count(count, end, out);
+    if count == 0 {
+        return Ok(());
     }
+    write_count(count, end, out)
 }
 
-fn say_count<W: Write + Drop>(count: u128, end: &[u8], out: &mut Sink<'_, W>)
-    ensures { Says W.contents out.old out.new (count_json count end.now) }
+#[tactic(auto, unfolding(crate::specs::JsonLines::count_json))]
+fn write_count<W: Write + Drop>(count: u128, end: &[u8], out: &mut W) -> io::Result<()>
+    ensures { Writes W.contents out.old out.new result (count_json count end.now) }
 {
-    out.say(b"{\"count\":");
-    say_sum(count, out);
-    out.say(end);
+    write!(out, "{{\"count\":{count}")?;
+    out.write_all(end)
 }

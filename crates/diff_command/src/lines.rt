@@ -4,11 +4,9 @@ ghost use Rattle.std.specs.Prelude.{◌≡◌, ◌++◌, ◌∷◌, [], codes, m
 ghost use Rattle.std.specs.Fmt.{decimal};
 ghost use Rattle.std.specs.List.{flat_map};
 ghost use Rattle.contract_words.specs.Writes.{Writes};
-ghost use Rattle.sink.specs.Says.{Says};
 ghost use Rattle.command_base.specs.Output.{Prints};
 ghost use Rattle.command_base.specs.declared.status.Status.TheVariants.{Negative};
 ghost use Rattle.stack_diff.specs.names.Label.{label_of};
-ghost use Rattle.stack_diff.specs.names.LabelText.{label_text};
 ghost use Rattle.stack_diff.specs.names.Pairs.{pair_of};
 ghost use Rattle.stack_diff.specs.Stacks.{stacks_of};
 ghost use Rattle.diff_command.specs.Judged.{told_of};
@@ -19,7 +17,6 @@ use crate::stack_counts::StackCounts;
 use crate::told::Told;
 use command_base::{LocaleRule, Status, ToolFault};
 use resource_text::LineForm;
-use sink::Sink;
 use stack_diff::{Label, NamePair, PackageNames, Stacks};
 use std::io::{self, Write};
 
@@ -35,127 +32,108 @@ pub(crate) fn write_lines<W: Write + Drop>(
 {
     let old = StackCounts::of(stacks.old_stack(), rule);
     let new = StackCounts::of(stacks.new_stack(), rule);
-    let mut sink = Sink::new(out);
-    say_labels(b"changed ", stacks.packages(), pairs, told, &mut sink);
-    let (before, after) = (old.shared_names, new.shared_names);
-    say_counts(b"warning shared-names", before, after, &mut sink);
-    say_counts(b"set-aside", old.set_aside, new.set_aside, &mut sink);
-    say_count(b"same", same_count(told) as u128, &mut sink);
-    sink.end()
+    write_labels(b"changed ", stacks.packages(), pairs, told, out)?;
+    write_counts(
+        b"warning shared-names",
+        old.shared_names,
+        new.shared_names,
+        out,
+    )?;
+    write_counts(b"set-aside", old.set_aside, new.set_aside, out)?;
+    write_count(b"same", same_count(told) as u128, out)
 }
 
 // ---- labels
 
-/// Says the lines of labels, with these words before each that has blocks.
-#[tactic(auto, unfolding(crate::specs::DiffLines::label_lines), using(sink::proofs::SaysSteps::says_all))]
-pub(crate) fn say_labels<W: Write + Drop>(
+/// Writes the lines of labels, with these words before each that has blocks.
+#[tactic(auto, unfolding(crate::specs::DiffLines::label_lines), using(contract_words::proofs::TextSteps::puts))]
+pub(crate) fn write_labels<W: Write + Drop>(
     before: &[u8],
     packages: &PackageNames<'_>,
     pairs: &[NamePair<'_>],
     told: &[Told],
-    out: &mut Sink<'_, W>,
-)
-    ensures { Says W.contents out.old out.new (label_lines before.now packages.now (map pair_of pairs.now) (map told_of told.now)) }
+    out: &mut W,
+) -> io::Result<()>
+    ensures { Writes W.contents out.old out.new result (label_lines before.now packages.now (map pair_of pairs.now) (map told_of told.now)) }
 {
     for (place, pair) in pairs.iter().enumerate() {
         let Some(one) = told.get(place) else {
-            return;
+            return Ok(());
         };
-        say_told(before, packages, &pair.label, one, out);
+        write_told(before, packages, &pair.label, one, out)?;
     }
+    Ok(())
 }
 
 #[tactic(auto, unfolding(crate::specs::DiffLines::told_lines, crate::specs::DiffLines::block_lines, crate::specs::NameLines::added_line, crate::specs::NameLines::removed_line))]
-fn say_told<W: Write + Drop>(
+fn write_told<W: Write + Drop>(
     before: &[u8],
     packages: &PackageNames<'_>,
     label: &Label<'_>,
     told: &Told,
-    out: &mut Sink<'_, W>,
-)
-    ensures { Says W.contents out.old out.new (told_lines before.now packages.now (label_of label.now) (told_of told.now)) }
+    out: &mut W,
+) -> io::Result<()>
+    ensures { Writes W.contents out.old out.new result (told_lines before.now packages.now (label_of label.now) (told_of told.now)) }
 {
     match told {
-        Told::Removed => say_block(b"removed ", packages, label, b"\n", out),
-        Told::Added => say_block(b"added ", packages, label, b"\n", out),
-        Told::Same => {}
-        Told::Changed(blocks) => say_blocks(before, packages, label, blocks, out),
+        Told::Removed => write_block(b"removed ", packages, label, b"\n", out),
+        Told::Added => write_block(b"added ", packages, label, b"\n", out),
+        Told::Same => Ok(()),
+        Told::Changed(blocks) => write_blocks(before, packages, label, blocks, out),
     }
 }
 
-#[tactic(auto, using(sink::proofs::SaysSteps::says_slice))]
-fn say_blocks<W: Write + Drop>(
+#[tactic(auto, using(contract_words::proofs::TextSteps::puts_slice))]
+fn write_blocks<W: Write + Drop>(
     before: &[u8],
     packages: &PackageNames<'_>,
     label: &Label<'_>,
     blocks: &[Vec<u8>],
-    out: &mut Sink<'_, W>,
-)
-    ensures { Says W.contents out.old out.new (flat_map (block_lines before.now packages.now (label_of label.now)) (map (λ block. block.items) blocks.now)) }
+    out: &mut W,
+) -> io::Result<()>
+    ensures { Writes W.contents out.old out.new result (flat_map (block_lines before.now packages.now (label_of label.now)) (map (λ block. block.items) blocks.now)) }
 {
     for block in blocks {
-        say_block(before, packages, label, block, out);
+        write_block(before, packages, label, block, out)?;
     }
+    Ok(())
 }
 
-fn say_block<W: Write + Drop>(
+#[tactic(auto, unfolding(crate::specs::DiffLines::block_lines))]
+fn write_block<W: Write + Drop>(
     before: &[u8],
     packages: &PackageNames<'_>,
     label: &Label<'_>,
     block: &[u8],
-    out: &mut Sink<'_, W>,
-)
-    ensures { Says W.contents out.old out.new (block_lines before.now packages.now (label_of label.now) block.now) }
+    out: &mut W,
+) -> io::Result<()>
+    ensures { Writes W.contents out.old out.new result (block_lines before.now packages.now (label_of label.now) block.now) }
 {
-    out.say(before);
-    say_label(packages, label, out);
-    out.say(block);
-}
-
-fn say_label<W: Write + Drop>(packages: &PackageNames<'_>, label: &Label<'_>, out: &mut Sink<'_, W>)
-    ensures { Says W.contents out.old out.new (label_text packages.now (label_of label.now)) }
-{
-    if out.is_whole() {
-        let wrote = packages.write_label(label, out.writer);
-        out.keep(wrote);
-    }
+    out.write_all(before)?;
+    packages.write_label(label, out)?;
+    out.write_all(block)
 }
 
 // ---- counts
 
-// Says a count of either stack, if one of them is not 0.
-fn say_counts<W: Write + Drop>(words: &[u8], old: u128, new: u128, out: &mut Sink<'_, W>)
-    ensures { Says W.contents out.old out.new (counts_line words.now old new) }
+// Writes a count of either stack, if one of them is not 0.
+#[tactic(auto, unfolding(crate::specs::DiffLines::counts_line))]
+fn write_counts<W: Write + Drop>(words: &[u8], old: u128, new: u128, out: &mut W) -> io::Result<()>
+    ensures { Writes W.contents out.old out.new result (counts_line words.now old new) }
 {
     if old == 0 && new == 0 {
-        return;
+        return Ok(());
     }
-    out.say(words);
-    out.say(b" ");
-    say_sum(old, out);
-    out.say(b" ");
-    say_sum(new, out);
-    out.say(b"\n");
+    out.write_all(words)?;
+    writeln!(out, " {old} {new}")
 }
 
-/// Says a count, behind words.
-pub(crate) fn say_count<W: Write + Drop>(words: &[u8], count: u128, out: &mut Sink<'_, W>)
-    ensures { Says W.contents out.old out.new (words.now ++ codes " " ++ decimal count ++ 10 ∷ []) }
+/// Writes a count, behind words.
+pub(crate) fn write_count<W: Write + Drop>(words: &[u8], count: u128, out: &mut W) -> io::Result<()>
+    ensures { Writes W.contents out.old out.new result (words.now ++ codes " " ++ decimal count ++ 10 ∷ []) }
 {
-    out.say(words);
-    out.say(b" ");
-    say_sum(count, out);
-    out.say(b"\n");
-}
-
-/// Says in decimal what may be more than a count.
-pub(crate) fn say_sum<W: Write + Drop>(sum: u128, out: &mut Sink<'_, W>)
-    ensures { Says W.contents out.old out.new (decimal sum) }
-{
-    if out.is_whole() {
-        let wrote = write!(out.writer, "{sum}");
-        out.keep(wrote);
-    }
+    out.write_all(words)?;
+    writeln!(out, " {count}")
 }
 
 // ---- labels that say the same

@@ -18,7 +18,6 @@ use command_base::{
 };
 use names::{NameFault, ids_named};
 use resource_text::{Form, LineForm};
-use sink::Sink;
 use stack_diff::{ResId, RowUse, Stack, row_uses};
 use std::alloc::Global;
 use std::io::Write;
@@ -122,9 +121,7 @@ fn print_unused<W: Write + Drop>(
 {
     let mut text = Vec::new(alloc);
     let totals = push_layers(alloc, stack, uses, &mut text)?;
-    let mut sink = Sink::new(out);
-    sink.say(&text);
-    totals.say(&mut sink);
-    sink.end()?;
+    out.write_all(&text)?;
+    totals.write(out)?;
     Ok(Status::negative_if(totals.unused > 0))
 }

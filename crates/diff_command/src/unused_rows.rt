@@ -1,12 +1,10 @@
-//! The rows that no device loads, told and counted.
+//! The rows that no device loads, written and counted.
 
-ghost use Rattle.std.specs.Prelude.{◌≡◌, ℕ, ◌+◌, ◌<◌, ◌*◌, ◌^◌, ◌++◌, codes, fold, length, map, option_map, zip, OnOk, IfOk};
-ghost use Rattle.std.specs.Fmt.{decimal};
+ghost use Rattle.std.specs.Prelude.{◌≡◌, ℕ, ◌+◌, ◌<◌, ◌*◌, ◌^◌, ◌++◌, fold, length, map, option_map, zip, OnOk, IfOk};
+ghost use Rattle.std.specs.Io.KnownBytes.{Appends};
 ghost use Rattle.std.specs.List.{enumerate_from, flat_map};
-ghost use Rattle.sink.specs.Says.{Says};
-ghost use Rattle.answer_notation.specs.Naming.{id_notation};
-ghost use Rattle.answer_notation.specs.TableNotation.{alone, row_end_notation};
-ghost use Rattle.answer_text.specs.LayerText.{layer_text};
+ghost use Rattle.contract_words.specs.Writes.{Writes};
+ghost use Rattle.answer_notation.specs.TableNotation.{alone};
 ghost use Rattle.answer_text.specs.resource_table.Table.{rows_of};
 ghost use Rattle.answer_text.specs.type_chunks.Row.{row_of};
 ghost use Rattle.res_value.specs.Cell.{cell_of};
@@ -15,13 +13,11 @@ ghost use Rattle.answer_text.specs.overlay_map.Layer.{LayerOf, by_itself};
 ghost use Rattle.diff_command.specs.UnusedOutput.{entry_size, layer_lines, totals_line, totals_of, use_line, used_rows, with_row, word_of};
 ghost use Rattle.diff_command.specs.UnusedTotals.{IsWithin};
 
-use crate::lines::say_sum;
 use answer_notation::{Naming, write_row_end};
-use answer_text::{Cell, MapRows, ResId, Row, Table, write_layer};
-use sink::Sink;
+use answer_text::{Cell, MapRows, Row, Table, write_layer};
 use stack_diff::{RowUse, Stack};
 use std::alloc::{AllocError, Global};
-use std::io::Write;
+use std::io::{self, Write};
 
 /// How many rows become what, and the bytes of the entries of those that are unused.
 #[derive(Clone, Copy)]
@@ -68,10 +64,11 @@ impl Totals {
         }
     }
 
-    /// Says the last line.
-    pub(crate) fn say<W: Write + Drop>(self, out: &mut Sink<'_, W>)
+    /// Writes the last line.
+    #[tactic(auto, unfolding(crate::specs::UnusedOutput::totals_line))]
+    pub(crate) fn write<W: Write + Drop>(self, out: &mut W) -> io::Result<()>
         requires { IsWithin (2 ^ 80) self }
-        ensures { Says W.contents out.old out.new (totals_line self) }
+        ensures { Writes W.contents out.old out.new result (totals_line self) }
     {
         let Totals {
             loaded,
@@ -80,20 +77,12 @@ impl Totals {
             unmapped,
             bytes,
         } = self;
-        say_total(b"rows ", loaded + unused + overlaid + unmapped, out);
-        say_total(b" unused ", unused, out);
-        say_total(b" overlaid ", overlaid, out);
-        say_total(b" unmapped ", unmapped, out);
-        say_total(b" bytes ", bytes, out);
-        out.say(b"\n");
+        let rows = loaded + unused + overlaid + unmapped;
+        writeln!(
+            out,
+            "rows {rows} unused {unused} overlaid {overlaid} unmapped {unmapped} bytes {bytes}"
+        )
     }
-}
-
-fn say_total<W: Write + Drop>(word: &[u8], total: u128, out: &mut Sink<'_, W>)
-    ensures { Says W.contents out.old out.new (word.now ++ decimal total) }
-{
-    out.say(word);
-    say_sum(total, out);
 }
 
 // The bytes of an entry.
@@ -149,46 +138,46 @@ fn push_layer(
 ) -> Result<(), AllocError>
     requires few { place < 64 }
     requires within { IsWithin (place * 2 ^ 64) totals.old }
-    ensures { OnOk result (IsWithin ((place + 1) * 2 ^ 64) totals.new
-        × ((layer : LayerOf) → stack.now ≡ by_itself layer → (text.new.items ≡ text.old.items ++ layer_lines (place, (layer, uses.now)))
-        × (totals.new ≡ fold with_row totals.old (used_rows (layer, uses.now))))) }
+    ensures text { (layer : LayerOf) → stack.now ≡ by_itself layer → OnOk result (text.new.items ≡ text.old.items ++ layer_lines (place, (layer, uses.now))) }
+    ensures counted { (layer : LayerOf) → stack.now ≡ by_itself layer → OnOk result (totals.new ≡ fold with_row totals.old (used_rows (layer, uses.now))) }
+    ensures within { OnOk result (IsWithin ((place + 1) * 2 ^ 64) totals.new) }
 {
     let Some(table) = stack.layer_table(0) else {
         return Ok(());
     };
     let naming = Naming::of(alloc, stack, &[])?;
-    let mut sink = Sink::new(text);
-    say_rows(&naming, place, table, uses, totals, &mut sink);
-    match sink.end() {
+    match write_rows(&naming, place, table, uses, totals, text) {
         Ok(()) => Ok(()),
         // To a `Vec` only a want of memory is a fault.
         Err(_) => Err(AllocError),
     }
 }
 
-// Says the lines of the rows of a table that are told, and counts all rows that are asked for.
-fn say_rows<W: Write + Drop>(
+// Writes the lines of the rows of a table that are told, and counts all rows that are asked for.
+#[tactic(auto, using(contract_words::proofs::TextSteps::puts))]
+fn write_rows<W: Write + Drop>(
     naming: &Naming<'_, '_, '_>,
     place: usize,
     table: &Table<'_>,
     uses: &[Option<RowUse>],
     totals: &mut Totals,
-    out: &mut Sink<'_, W>,
-)
+    out: &mut W,
+) -> io::Result<()>
     requires few { place < 64 }
     requires within { IsWithin (place * 2 ^ 64) totals.old }
-    ensures { Says W.contents out.old out.new (flat_map (use_line naming.now place) (zip (rows_of table.now) uses.now))
+    ensures { OnOk result (Appends (W.contents out.old) (W.contents out.new) (flat_map (use_line naming.now place) (zip (rows_of table.now) uses.now))
         × (totals.new ≡ fold with_row totals.old (zip (rows_of table.now) uses.now))
-        × IsWithin ((place + 1) * 2 ^ 64) totals.new }
+        × IsWithin ((place + 1) * 2 ^ 64) totals.new) }
 {
     let mut rows = table.all_rows();
     for row_use in uses {
         let Some(row) = rows.next() else {
-            return;
+            return Ok(());
         };
-        say_use(naming, place, &row, *row_use, out);
+        write_use(naming, place, &row, *row_use, out)?;
         totals.add(&row, *row_use);
     }
+    Ok(())
 }
 
 // The word for what becomes of a row, none where it is loaded or not asked for.
@@ -203,50 +192,23 @@ fn word_of(row_use: Option<RowUse>) -> Option<&'static str>
     }
 }
 
-// Says the line of a row that has such a word.
-fn say_use<W: Write + Drop>(
+// Writes the line of a row that has such a word.
+fn write_use<W: Write + Drop>(
     naming: &Naming<'_, '_, '_>,
     place: usize,
     row: &Row<'_>,
     row_use: Option<RowUse>,
-    out: &mut Sink<'_, W>,
-)
-    ensures { Says W.contents out.old out.new (use_line naming.now place (row_of row.now, row_use)) }
+    out: &mut W,
+) -> io::Result<()>
+    ensures { Writes W.contents out.old out.new result (use_line naming.now place (row_of row.now, row_use)) }
 {
     let Some(word) = word_of(row_use) else {
-        return;
+        return Ok(());
     };
-    out.say(word.as_bytes());
-    say_layer(place, out);
-    out.say(b" ");
-    say_id(naming, row.id, out);
-    out.say(b" ");
-    say_row_end(naming, row, out);
-}
-
-fn say_layer<W: Write + Drop>(place: usize, out: &mut Sink<'_, W>)
-    ensures { Says W.contents out.old out.new (layer_text place) }
-{
-    if out.is_whole() {
-        let wrote = write_layer(place, out.writer);
-        out.keep(wrote);
-    }
-}
-
-fn say_id<W: Write + Drop>(naming: &Naming<'_, '_, '_>, id: ResId, out: &mut Sink<'_, W>)
-    ensures { Says W.contents out.old out.new (id_notation naming.now id.0) }
-{
-    if out.is_whole() {
-        let wrote = naming.write_id(id, out.writer);
-        out.keep(wrote);
-    }
-}
-
-fn say_row_end<W: Write + Drop>(naming: &Naming<'_, '_, '_>, row: &Row<'_>, out: &mut Sink<'_, W>)
-    ensures { Says W.contents out.old out.new (row_end_notation naming.now (codes "  ") (row_of row.now)) }
-{
-    if out.is_whole() {
-        let wrote = write_row_end(naming, b"  ", row, out.writer);
-        out.keep(wrote);
-    }
+    out.write_all(word.as_bytes())?;
+    write_layer(place, out)?;
+    out.write_all(b" ")?;
+    naming.write_id(row.id, out)?;
+    out.write_all(b" ")?;
+    write_row_end(naming, b"  ", row, out)
 }

@@ -2,17 +2,15 @@
 
 ghost use Rattle.std.specs.Prelude.{map};
 ghost use Rattle.contract_words.specs.Writes.{Writes};
-ghost use Rattle.sink.specs.Says.{Says};
 ghost use Rattle.stack_diff.specs.names.Pairs.{pair_of};
 ghost use Rattle.stack_diff.specs.Stacks.{stacks_of};
 ghost use Rattle.diff_command.specs.Judged.{told_of};
 ghost use Rattle.diff_command.specs.ValuesOutput.{count_line, values_lines};
 
-use crate::lines::{say_count, say_labels};
+use crate::lines::{write_count, write_labels};
 use crate::stack_counts::StackCounts;
 use crate::told::Told;
 use command_base::LocaleRule;
-use sink::Sink;
 use stack_diff::{NamePair, Stacks};
 use std::io::{self, Write};
 
@@ -27,20 +25,19 @@ pub(crate) fn write_value_lines<W: Write + Drop>(
     ensures { Writes W.contents out.old out.new result (values_lines rule (stacks_of stacks.entry) (map pair_of pairs.now) (map told_of told.now)) }
 {
     let counts = StackCounts::of(stacks.new_stack(), rule);
-    let mut sink = Sink::new(out);
-    say_labels(b"", stacks.packages(), pairs, told, &mut sink);
-    say_count_unless_0(b"warning shared-names", counts.shared_names, &mut sink);
-    say_count_unless_0(b"set-aside", counts.set_aside, &mut sink);
-    say_count(b"resources", pairs.len() as u128, &mut sink);
-    sink.end()
+    write_labels(b"", stacks.packages(), pairs, told, out)?;
+    write_count_unless_0(b"warning shared-names", counts.shared_names, out)?;
+    write_count_unless_0(b"set-aside", counts.set_aside, out)?;
+    write_count(b"resources", pairs.len() as u128, out)
 }
 
-// Says a count, if it is not 0.
+// Writes a count, if it is not 0.
 #[tactic(auto, unfolding(crate::specs::ValuesOutput::count_line))]
-fn say_count_unless_0<W: Write + Drop>(words: &[u8], count: u128, out: &mut Sink<'_, W>)
-    ensures { Says W.contents out.old out.new (count_line words.now count) }
+fn write_count_unless_0<W: Write + Drop>(words: &[u8], count: u128, out: &mut W) -> io::Result<()>
+    ensures { Writes W.contents out.old out.new result (count_line words.now count) }
 {
-    if count != 0 {
-        say_count(words, count, out);
+    if count == 0 {
+        return Ok(());
     }
+    write_count(words, count, out)
 }

@@ -1,13 +1,12 @@
--- How a loop finds whether one of some items passes a test, and says the text of each.
+-- How a loop finds whether one of some items passes a test, and writes the text of each.
 use Rattle.std.proofs.Common.{◌≡◌, ℕ, ◌+◌, ◌<◌, ◌≤◌, Bool, false, List, [], ◌∷◌, Option, refl, sym, ap, ◌∙◌, length, drop, get_or, map}
 use Rattle.std.specs.Prelude.{◌||◌}
 use Rattle.std.specs.List.{list_any, enumerate_from}
 use Rattle.std.specs.Borrow.{Bor}
 use Rattle.std.proofs.Math.Bool.{or-false, or_assoc}
 use Rattle.std.proofs.lemmas.List.{drop_more, drop_all}
-use Rattle.sink.specs.declared.sink.Sink.{Sink}
-use Rattle.sink.specs.Says.{Says}
-use Rattle.sink.proofs.SaysSteps.{SaysAllBut, SaysAllBut-none, SaysAllBut-next, SaysAllBut-done}
+use Rattle.std.specs.Io.KnownBytes.{Appends}
+use Rattle.contract_words.proofs.TextSteps.{PutsAllBut, PutsAllBut-none, PutsAllBut-next, PutsAllBut-done}
 use Rattle.command_base.specs.StackBytes.{LayerBytes}
 use Rattle.command_base.specs.StackBytesSeen.{layer_bytes}
 
@@ -37,12 +36,11 @@ pub FindsAllBut-next_at : {A : Type 0} (test : A → Bool) (found new passes : B
 FindsAllBut-next_at test found new passes xs place d before on tells after =
     FindsAllBut-next test found new passes xs (drop place xs) (drop (place + 1) xs) (get_or xs place d) before (drop_more xs place d on) tells after
 
--- the text of the item at a place of a slice was said
-pub line-next_at : {W A : Type 0} (contents : W → Option (List ℕ)) (line : A → List ℕ) (old mid new : Sink W) (xs : List A) (place : ℕ) (d : A)
-    → SaysAllBut contents line old mid xs (drop place xs) → place < length xs → Says contents mid new (line (get_or xs place d))
-    → SaysAllBut contents line old new xs (drop (place + 1) xs)
-line-next_at contents line old mid new xs place d before on said =
-    SaysAllBut-next contents line old mid new xs (drop place xs) (drop (place + 1) xs) (get_or xs place d) before (drop_more xs place d on) said
+-- the text of the item at a place of a slice was written
+pub line-next_at : {A : Type 0} (line : A → List ℕ) (old mid new : Option (List ℕ)) (xs : List A) (place : ℕ) (d : A) → PutsAllBut line old mid xs (drop place xs)
+    → place < length xs → Appends mid new (line (get_or xs place d)) → PutsAllBut line old new xs (drop (place + 1) xs)
+line-next_at line old mid new xs place d before on put =
+    PutsAllBut-next line old mid new xs (drop place xs) (drop (place + 1) xs) (get_or xs place d) before (drop_more xs place d on) put
 
 -- ---- layers, as their bytes are lent, with their places
 
@@ -60,4 +58,4 @@ layers_from-next place layers d on = ap (λ (left : List Lent). enumerate_from p
 pub layers_from-end : (place : ℕ) (layers : List Lent) → length layers ≤ place → layers_from place layers ≡ []
 layers_from-end place layers past = ap (λ (left : List Lent). enumerate_from place (map layer_bytes left)) (drop_all place layers past)
 
-pub ruleset finds = (SaysAllBut-none, SaysAllBut-done, FindsAllBut-none, FindsAllBut-end, drop_all, layers_from-end)
+pub ruleset finds = (PutsAllBut-none, PutsAllBut-done, FindsAllBut-none, FindsAllBut-end, drop_all, layers_from-end)

@@ -4,7 +4,7 @@ use Rattle.command_base.specs.CarriesOut.{CarriesOut, IsKept}
 use Rattle.command_base.specs.declared.fault.ToolFault.{ToolFault}
 use Rattle.command_base.specs.declared.fault.ToolFault.TheVariants.{OutOfMemory, Write}
 use Rattle.command_base.specs.Output.{Output, Prints}
-use Rattle.command_base.specs.Stop.{tool}
+use Rattle.command_base.specs.Stop.{StopOf, tool}
 use Rattle.command_base.specs.declared.status.Status.{Status}
 use Rattle.command_base.specs.declared.stop.Stop.{Stop}
 use Rattle.command_base.specs.declared.stop.Stop.TheVariants.{Tool}

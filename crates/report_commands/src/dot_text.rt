@@ -1,24 +1,24 @@
-//! The tree of a goal as a picture, in the language DOT.
+//! The tree of a goal as a picture, written in the language DOT.
 
-ghost use Rattle.std.specs.Prelude.{◌≡◌, ◌++◌, map, OnOk, IfOk};
+ghost use Rattle.std.specs.Prelude.{◌≡◌, ◌++◌, codes, map, OnOk, IfOk};
+ghost use Rattle.std.specs.Fmt.{decimal};
 ghost use Rattle.std.specs.List.{flat_map};
-ghost use Rattle.sink.specs.Says.{Says};
+ghost use Rattle.contract_words.specs.Writes.{Writes};
 ghost use Rattle.command_base.specs.answer_text.OnLine.{on_line};
 ghost use Rattle.command_base.specs.cert_tree.Certificate.{goal_of};
 ghost use Rattle.command_base.specs.cert_tree.res_value.Goal.{goal_seen};
 ghost use Rattle.report_commands.specs.TreeLinesSeen.{line_of};
 ghost use Rattle.report_commands.specs.TreeText.{goal_head};
-ghost use Rattle.report_commands.specs.DotText.{escaped, is_inside, character_end, dots_for, cut_label, line_label, missing_name, line_name, labeled_arrow, arrow_to, arrow_text, statements_with, statements_text, head_with, dot_text};
+ghost use Rattle.report_commands.specs.DotText.{escaped, is_inside, character_end, dots_for, cut_label, line_label, missing_name, line_name, arrow_to, arrow_text, statements_with, statements_text, head_with, dot_text};
 
-use crate::goal_text::say_goal_head;
-use crate::node_text::say_node_label;
+use crate::goal_text::write_goal_head;
+use crate::node_text::write_node_label;
 use crate::path_end::LastAnswer;
 use crate::tree_lines::{TreeLine, tree_lines};
 use answer_text::{Form, StackNames, write_on_line};
 use command_base::{CertGoal, Goal};
-use sink::Sink;
 use std::alloc::{AllocError, Global};
-use std::io::Write;
+use std::io::{self, Write};
 
 /// How many bytes of a label are shown at most. Graphviz reads no longer texts than 16,384 bytes.
 const MOST_OF_A_LABEL: usize = 2000;
@@ -51,9 +51,7 @@ fn head_of(
 {
     let label = goal_label(alloc, stack, number, goal)?;
     let mut text = Vec::new(alloc);
-    let mut out = Sink::new(&mut text);
-    say_head(&label, &mut out);
-    match out.end() {
+    match write_head(&label, &mut text) {
         Ok(()) => Ok(text),
         // To a `Vec` only a want of memory is a fault.
         Err(_) => Err(AllocError),
@@ -81,22 +79,21 @@ fn goal_label(
     ensures { IfOk result (λ label. label.items ≡ on_line (goal_head stack.now number (goal_seen goal.now))) }
 {
     let mut label = Vec::new(alloc);
-    let mut out = Sink::new(&mut label);
-    say_goal_head(stack, number, goal, &mut out);
-    match out.end() {
+    match write_goal_head(stack, number, goal, &mut label) {
         Ok(()) => on_line(alloc, &label),
         // To a `Vec` only a want of memory is a fault.
         Err(_) => Err(AllocError),
     }
 }
 
-// Says what stands before the lines of the tree.
-fn say_head<W: Write + Drop>(label: &[u8], out: &mut Sink<'_, W>)
-    ensures { Says W.contents out.old out.new (head_with label.now) }
+// Writes what stands before the lines of the tree.
+#[tactic(auto, unfolding(crate::specs::DotText::head_with))]
+fn write_head<W: Write + Drop>(label: &[u8], out: &mut W) -> io::Result<()>
+    ensures { Writes W.contents out.old out.new result (head_with label.now) }
 {
-    out.say(b"digraph {\n  label=\"");
-    say_cut_label(label, out);
-    out.say(b"\";\n  node [shape=box];\n");
+    out.write_all(b"digraph {\n  label=\"")?;
+    write_cut_label(label, out)?;
+    out.write_all(b"\";\n  node [shape=box];\n")
 }
 
 // Pushes what is shown of each line.
@@ -127,9 +124,7 @@ fn push_line(
     ensures { OnOk result (text.new.items ≡ text.old.items ++ statements_text form stack.now (line_of line.now)) }
 {
     let label = label_of(alloc, form, stack, line)?;
-    let mut out = Sink::new(text);
-    say_statements(line, &label, &mut out);
-    match out.end() {
+    match write_statements(line, &label, text) {
         Ok(()) => Ok(()),
         // To a `Vec` only a want of memory is a fault.
         Err(_) => Err(AllocError),
@@ -145,9 +140,7 @@ fn label_of(
     ensures { IfOk result (λ label. label.items ≡ on_line (line_label form stack.now (line_of line.now))) }
 {
     let mut label = Vec::new(alloc);
-    let mut out = Sink::new(&mut label);
-    say_line_label(form, stack, line, &mut out);
-    match out.end() {
+    match write_line_label(form, stack, line, &mut label) {
         Ok(()) => on_line(alloc, &label),
         // To a `Vec` only a want of memory is a fault.
         Err(_) => Err(AllocError),
@@ -155,50 +148,56 @@ fn label_of(
 }
 
 #[tactic(auto, unfolding(crate::specs::DotText::line_label, crate::specs::DotText::unreached_label))]
-fn say_line_label<W: Write + Drop>(
+fn write_line_label<W: Write + Drop>(
     form: Form,
     stack: &StackNames<'_, '_>,
     line: &TreeLine<'_>,
-    out: &mut Sink<'_, W>,
-)
-    ensures { Says W.contents out.old out.new (line_label form stack.now (line_of line.now)) }
+    out: &mut W,
+) -> io::Result<()>
+    ensures { Writes W.contents out.old out.new result (line_label form stack.now (line_of line.now)) }
 {
     match line {
-        TreeLine::NodeAt { node, .. } => say_node_label(form, stack, node, out),
+        TreeLine::NodeAt { node, .. } => write_node_label(form, stack, node, out),
         TreeLine::Unreached { node, .. } => {
-            out.say(b"not reached: ");
-            say_node_label(form, stack, node, out);
+            out.write_all(b"not reached: ")?;
+            write_node_label(form, stack, node, out)
         }
-        TreeLine::Missing { .. } => out.say(b"ends early"),
+        TreeLine::Missing { .. } => out.write_all(b"ends early"),
     }
 }
 
-fn say_statements<W: Write + Drop>(line: &TreeLine<'_>, label: &[u8], out: &mut Sink<'_, W>)
-    ensures { Says W.contents out.old out.new (statements_with label.now (line_of line.now)) }
+#[tactic(auto, unfolding(crate::specs::DotText::statements_with))]
+fn write_statements<W: Write + Drop>(
+    line: &TreeLine<'_>,
+    label: &[u8],
+    out: &mut W,
+) -> io::Result<()>
+    ensures { Writes W.contents out.old out.new result (statements_with label.now (line_of line.now)) }
 {
-    out.say(b"  ");
-    say_name(line, out);
-    out.say(b" [label=\"");
-    say_cut_label(label, out);
-    out.say(b"\"];\n");
-    say_arrow(line, out);
+    out.write_all(b"  ")?;
+    write_name(line, out)?;
+    out.write_all(b" [label=\"")?;
+    write_cut_label(label, out)?;
+    out.write_all(b"\"];\n")?;
+    write_arrow(line, out)
 }
 
 #[tactic(auto, unfolding(crate::specs::DotText::cut_label))]
-fn say_cut_label<W: Write + Drop>(text: &[u8], out: &mut Sink<'_, W>)
-    ensures { Says W.contents out.old out.new (cut_label text.now) }
+fn write_cut_label<W: Write + Drop>(text: &[u8], out: &mut W) -> io::Result<()>
+    ensures { Writes W.contents out.old out.new result (cut_label text.now) }
 {
     let end = character_end(text, MOST_OF_A_LABEL).min(text.len());
-    say_each_escaped(&text[..end], out);
-    say_dots_for(&text[end..], out);
+    write_each_escaped(&text[..end], out)?;
+    write_dots_for(&text[end..], out)
 }
 
-fn say_dots_for<W: Write + Drop>(left: &[u8], out: &mut Sink<'_, W>)
-    ensures { Says W.contents out.old out.new (dots_for left.now) }
+fn write_dots_for<W: Write + Drop>(left: &[u8], out: &mut W) -> io::Result<()>
+    ensures { Writes W.contents out.old out.new result (dots_for left.now) }
 {
-    if !left.is_empty() {
-        out.say(b"..");
+    if left.is_empty() {
+        return Ok(());
     }
+    out.write_all(b"..")
 }
 
 /// The last place up to one that is not inside a character.
@@ -223,98 +222,89 @@ fn is_inside(byte: Option<u8>) -> bool
     }
 }
 
-#[tactic(auto, using(sink::proofs::SaysSteps::says_all))]
-fn say_each_escaped<W: Write + Drop>(text: &[u8], out: &mut Sink<'_, W>)
-    ensures { Says W.contents out.old out.new (flat_map escaped text.now) }
+#[tactic(auto, using(contract_words::proofs::TextSteps::puts))]
+fn write_each_escaped<W: Write + Drop>(text: &[u8], out: &mut W) -> io::Result<()>
+    ensures { Writes W.contents out.old out.new result (flat_map escaped text.now) }
 {
     for byte in text {
-        say_escaped(*byte, out);
+        write_escaped(*byte, out)?;
     }
+    Ok(())
 }
 
 #[tactic(auto, unfolding(crate::specs::DotText::escaped))]
-fn say_escaped<W: Write + Drop>(byte: u8, out: &mut Sink<'_, W>)
-    ensures { Says W.contents out.old out.new (escaped byte) }
+fn write_escaped<W: Write + Drop>(byte: u8, out: &mut W) -> io::Result<()>
+    ensures { Writes W.contents out.old out.new result (escaped byte) }
 {
     if byte == b'"' || byte == b'\\' {
-        out.say(&[b'\\', byte]);
+        out.write_all(&[b'\\', byte])
     } else if byte == b'&' {
-        out.say(b"&amp;");
+        out.write_all(b"&amp;")
     } else {
-        out.say(&[byte]);
+        out.write_all(&[byte])
     }
 }
 
 #[tactic(auto, unfolding(crate::specs::DotText::line_name))]
-fn say_name<W: Write + Drop>(line: &TreeLine<'_>, out: &mut Sink<'_, W>)
-    ensures { Says W.contents out.old out.new (line_name (line_of line.now)) }
+fn write_name<W: Write + Drop>(line: &TreeLine<'_>, out: &mut W) -> io::Result<()>
+    ensures { Writes W.contents out.old out.new result (line_name (line_of line.now)) }
 {
     match line {
         TreeLine::NodeAt { number, .. } | TreeLine::Unreached { number, .. } => {
-            out.say(b"n");
-            out.say_count(*number);
+            write!(out, "n{number}")
         }
-        TreeLine::Missing { path } => say_missing_name(path.last, out),
+        TreeLine::Missing { path } => write_missing_name(path.last, out),
     }
 }
 
 #[tactic(auto, unfolding(crate::specs::DotText::missing_name))]
-fn say_missing_name<W: Write + Drop>(answer: LastAnswer, out: &mut Sink<'_, W>)
-    ensures { Says W.contents out.old out.new (missing_name answer) }
+fn write_missing_name<W: Write + Drop>(answer: LastAnswer, out: &mut W) -> io::Result<()>
+    ensures { Writes W.contents out.old out.new result (missing_name answer) }
 {
     match answer {
-        LastAnswer::Nothing => out.say(b"n0"),
-        LastAnswer::Yes(test) => {
-            out.say(b"n");
-            out.say_count(test);
-            out.say(b"yes");
-        }
-        LastAnswer::No(test) => {
-            out.say(b"n");
-            out.say_count(test);
-            out.say(b"no");
-        }
+        LastAnswer::Nothing => out.write_all(b"n0"),
+        LastAnswer::Yes(test) => write!(out, "n{test}yes"),
+        LastAnswer::No(test) => write!(out, "n{test}no"),
     }
 }
 
 #[tactic(auto, unfolding(crate::specs::DotText::arrow_text))]
-fn say_arrow<W: Write + Drop>(line: &TreeLine<'_>, out: &mut Sink<'_, W>)
-    ensures { Says W.contents out.old out.new (arrow_text (line_of line.now)) }
+fn write_arrow<W: Write + Drop>(line: &TreeLine<'_>, out: &mut W) -> io::Result<()>
+    ensures { Writes W.contents out.old out.new result (arrow_text (line_of line.now)) }
 {
     match line {
         TreeLine::NodeAt { path, .. } | TreeLine::Missing { path } => {
-            say_arrow_to(path.last, line, out);
+            write_arrow_to(path.last, line, out)
         }
-        TreeLine::Unreached { .. } => {}
+        TreeLine::Unreached { .. } => Ok(()),
     }
 }
 
-#[tactic(auto, unfolding(crate::specs::DotText::arrow_to))]
-fn say_arrow_to<W: Write + Drop>(answer: LastAnswer, line: &TreeLine<'_>, out: &mut Sink<'_, W>)
-    ensures { Says W.contents out.old out.new (arrow_to answer (line_name (line_of line.now))) }
+#[tactic(auto, unfolding(crate::specs::DotText::arrow_to, crate::specs::DotText::labeled_arrow))]
+fn write_arrow_to<W: Write + Drop>(
+    answer: LastAnswer,
+    line: &TreeLine<'_>,
+    out: &mut W,
+) -> io::Result<()>
+    ensures { Writes W.contents out.old out.new result (arrow_to answer (line_name (line_of line.now))) }
 {
     match answer {
-        LastAnswer::Nothing => {}
-        LastAnswer::Yes(test) => say_labeled_arrow(test, b"yes", line, out),
-        LastAnswer::No(test) => say_labeled_arrow(test, b"no", line, out),
+        LastAnswer::Nothing => Ok(()),
+        LastAnswer::Yes(test) => write_labeled_arrow(test, line, b" [label=yes];\n", out),
+        LastAnswer::No(test) => write_labeled_arrow(test, line, b" [label=no];\n", out),
     }
 }
 
-// An arrow from a test to a line, which stands behind this answer.
-fn say_labeled_arrow<W: Write + Drop>(
+// An arrow from a test to a line, and behind it its label.
+fn write_labeled_arrow<W: Write + Drop>(
     test: usize,
-    answer: &[u8],
     line: &TreeLine<'_>,
-    out: &mut Sink<'_, W>,
-)
-    ensures { Says W.contents out.old out.new (labeled_arrow test answer.now (line_name (line_of line.now))) }
+    label: &[u8],
+    out: &mut W,
+) -> io::Result<()>
+    ensures { Writes W.contents out.old out.new result (codes "  n" ++ decimal test ++ codes " -> " ++ line_name (line_of line.now) ++ label.now) }
 {
-    out.say(b"  n");
-    out.say_count(test);
-    out.say(b" -> ");
-    say_name(line, out);
-    out.say(b" [label=");
-    out.say(answer);
-    out.say(b"];");
-    out.say(b"\n");
+    write!(out, "  n{test} -> ")?;
+    write_name(line, out)?;
+    out.write_all(label)
 }

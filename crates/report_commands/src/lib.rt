@@ -47,7 +47,6 @@ mod locale_differences;
 mod node_text;
 mod open_paths;
 mod opened;
-mod parts;
 mod path_end;
 mod qualifiers;
 mod refused;

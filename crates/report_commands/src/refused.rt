@@ -2,17 +2,14 @@
 
 ghost use Rattle.std.specs.Prelude.{◌≡◌, ◌≢◌, map, Ok};
 ghost use Rattle.contract_words.specs.Writes.{Writes};
-ghost use Rattle.sink.specs.Says.{Says};
 ghost use Rattle.command_base.specs.declared.fault.ToolFault.TheVariants.{Write};
 ghost use Rattle.command_base.specs.Output.{Prints};
 ghost use Rattle.command_base.specs.StackBytesSeen.{layer_bytes};
 ghost use Rattle.report_commands.specs.Refused.{chunks_differ, differs_where_refused, refused_text, refused_output};
 
 use crate::findings::Findings;
-use crate::layers::say_layers;
-use crate::parts::say_fault;
-use command_base::{LayerParts, LocaleRule, Stack, Status, ToolFault};
-use sink::Sink;
+use crate::layers::write_layers;
+use command_base::{LayerParts, LocaleRule, Stack, Status, ToolFault, fault_text};
 use std::alloc::Global;
 use std::io::{self, Write};
 
@@ -35,6 +32,7 @@ pub(crate) fn survey_refused<W: Write + Drop>(
     Ok(Status::Negative)
 }
 
+#[tactic(auto, unfolding(crate::specs::Refused::refused_text))]
 fn write_refused<W: Write + Drop>(
     alloc: Global,
     layers: &[LayerParts<&[u8]>],
@@ -43,23 +41,10 @@ fn write_refused<W: Write + Drop>(
 ) -> io::Result<()>
     ensures { Writes W.contents out.old out.new result (refused_text (map layer_bytes layers.now) fault.now) }
 {
-    let mut sink = Sink::new(out);
-    say_refused(alloc, layers, fault, &mut sink);
-    sink.end()
-}
-
-fn say_refused<W: Write + Drop>(
-    alloc: Global,
-    layers: &[LayerParts<&[u8]>],
-    fault: &ToolFault,
-    out: &mut Sink<'_, W>,
-)
-    ensures { Says W.contents out.old out.new (refused_text (map layer_bytes layers.now) fault.now) }
-{
     // Without layers there are no rows, whose locales a rule would compare.
     let no_rows = Stack::new(alloc);
-    say_layers(&no_rows, LocaleRule::LanguageAndRegion, &[], layers, out);
-    say_fault(fault, out);
+    write_layers(&no_rows, LocaleRule::LanguageAndRegion, &[], layers, out)?;
+    fault_text(fault, out)
 }
 
 fn differs_where_refused(layers: &[LayerParts<&[u8]>], fault: &ToolFault) -> bool

@@ -2,7 +2,7 @@
 
 ghost use Rattle.std.specs.Prelude.{◌≡◌, ◌++◌, map, Ok, IfOk, IfSome, OnOk};
 ghost use Rattle.contract_words.specs.Exact.{GivesOr};
-ghost use Rattle.sink.specs.Says.{Says};
+ghost use Rattle.contract_words.specs.Writes.{Writes};
 ghost use Rattle.command_base.specs.declared.fault.ToolFault.TheVariants.{OutOfMemory, Write};
 ghost use Rattle.command_base.specs.declared.status.Status.TheVariants.{Negative};
 ghost use Rattle.command_base.specs.Output.{Prints, IsOfInput};
@@ -19,17 +19,16 @@ ghost use Rattle.report_commands.specs.ShowOutput.{show_inputs, show_answer, sho
 ghost use Rattle.command_base.specs.CarriesOut.{IsKept};
 
 use crate::dot_text::dot_text;
-use crate::goal_text::say_goal_line;
-use crate::line_text::say_lines;
+use crate::goal_text::write_goal_line;
+use crate::line_text::write_lines;
 use crate::tree_lines::{TreeLine, tree_lines};
 use answer_text::{Form, StackNames, write_on_line};
 use command_base::{
     Cert, CertGoal, Inputs, LayerFiles, LayerParts, LocaleRule, Stack, Status, Stop, ToolFault,
     file_bytes, open_stack, status_or_stop,
 };
-use sink::Sink;
 use std::alloc::{AllocError, Global};
-use std::io::Write;
+use std::io::{self, Write};
 
 /// What the words of `show` ask: the trees of a certificate.
 #[derive(Drop)]
@@ -249,29 +248,28 @@ fn push_goal(
     ensures { OnOk result (text.new.items ≡ text.old.items ++ goal_text form stack.now (number, goal_of goal.now)) }
 {
     let lines = tree_lines(alloc, goal.nodes.as_slice())?;
-    let mut out = Sink::new(text);
-    say_goal(form, stack, number, goal, &lines, &mut out);
-    match out.end() {
+    match write_goal(form, stack, number, goal, &lines, text) {
         Ok(()) => Ok(()),
         // To a `Vec` only a want of memory is a fault.
         Err(_) => Err(AllocError),
     }
 }
 
-// Says a goal, the lines of whose tree are these.
-fn say_goal<W: Write + Drop>(
+// Writes a goal, the lines of whose tree are these.
+#[tactic(auto, unfolding(crate::specs::TreeText::goal_text))]
+fn write_goal<W: Write + Drop>(
     form: Form,
     stack: &StackNames<'_, '_>,
     number: usize,
     goal: &CertGoal,
     lines: &[TreeLine<'_>],
-    out: &mut Sink<'_, W>,
-)
+    out: &mut W,
+) -> io::Result<()>
     requires { map line_of lines.now ≡ tree_lines (map node_of goal.now.nodes.items) }
-    ensures { Says W.contents out.old out.new (goal_text form stack.now (number, goal_of goal.now)) }
+    ensures { Writes W.contents out.old out.new result (goal_text form stack.now (number, goal_of goal.now)) }
 {
-    say_goal_line(stack, number, &goal.goal, goal.nodes.len(), out);
-    say_lines(form, stack, lines, out);
+    write_goal_line(stack, number, &goal.goal, goal.nodes.len(), out)?;
+    write_lines(form, stack, lines, out)
 }
 
 // Pushes the line that says how many goals there are.

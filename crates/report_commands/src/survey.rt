@@ -4,7 +4,6 @@ ghost use Rattle.std.specs.Prelude.{◌≡◌, map, Ok, IfOk, IfSome};
 ghost use Rattle.std.specs.List.{flat_map, list_any};
 ghost use Rattle.std.specs.Option.{option_map};
 ghost use Rattle.contract_words.specs.Writes.{Writes};
-ghost use Rattle.sink.specs.Says.{Says};
 ghost use Rattle.command_base.specs.cert_tree.config_box.config_record.declared.coord.Coord as coord;
 ghost use Rattle.command_base.specs.cert_tree.config_box.config_record.Coord.{all_coords};
 ghost use Rattle.command_base.specs.FilesSeen.{bytes_of};
@@ -23,16 +22,15 @@ ghost use Rattle.report_commands.specs.SurveyText.{qualifier_line, lacking_line}
 ghost use Rattle.report_commands.specs.SurveyOutput.{lacking_text, lacks_some, survey_answer, survey_output_by};
 ghost use Rattle.command_base.specs.CarriesOut.{IsKept};
 
-use crate::layers::say_layers;
+use crate::layers::write_layers;
 use crate::opened::Opened;
 use crate::qualifiers::Qualifiers;
 use crate::refused::survey_refused;
-use crate::text::{say_lacks, say_qualifier, say_shared};
+use crate::text::{write_lacks, write_qualifier, write_shared};
 use command_base::{
     Coord, Inputs, LayerFiles, LayerParts, LocaleRule, Status, Stop, ToolFault, file_bytes,
     status_or_stop,
 };
-use sink::Sink;
 use std::alloc::Global;
 use std::io::{self, Write};
 
@@ -139,6 +137,7 @@ fn survey_by<W: Write + Drop>(
     }
 }
 
+#[tactic(auto, unfolding(crate::specs::SurveyOutput::survey_answer))]
 fn write_answer<W: Write + Drop>(
     layers: &[LayerParts<&[u8]>],
     opened: &Opened<'_>,
@@ -148,88 +147,79 @@ fn write_answer<W: Write + Drop>(
     ensures { Writes W.contents out.old out.new result (survey_answer (map layer_bytes layers.now) (opened_of opened.now)).text
         × IfOk result (λ status. status ≡ (survey_answer (map layer_bytes layers.now) (opened_of opened.now)).status) }
 {
-    let mut sink = Sink::new(out);
-    let status = say_answer(layers, opened, &mut sink);
-    sink.end()?;
-    Ok(status)
-}
-
-#[tactic(auto, unfolding(crate::specs::SurveyOutput::survey_answer))]
-fn say_answer<W: Write + Drop>(
-    layers: &[LayerParts<&[u8]>],
-    opened: &Opened<'_>,
-    out: &mut Sink<'_, W>,
-) -> Status
-    requires { opened.now.shared ≡ shared_of (shared_ids opened.now.stack) }
-    ensures text { Says W.contents out.old out.new (survey_answer (map layer_bytes layers.now) (opened_of opened.now)).text }
-    ensures status { result ≡ (survey_answer (map layer_bytes layers.now) (opened_of opened.now)).status }
-{
-    let differs = say_layers(&opened.stack, opened.rule, opened.locales(), layers, out);
-    say_shared(opened.shared, out);
+    let differs = write_layers(&opened.stack, opened.rule, opened.locales(), layers, out)?;
+    write_shared(opened.shared, out)?;
     let qualifiers = Qualifiers::of_stack(&opened.stack);
-    say_lines(&qualifiers, out);
-    let lacks = say_all_lacking(opened, &qualifiers, out);
+    write_lines(&qualifiers, out)?;
+    let lacks = write_all_lacking(opened, &qualifiers, out)?;
     let shares = opened.shared.is_some();
-    Status::negative_if(differs || shares || lacks)
+    Ok(Status::negative_if(differs || shares || lacks))
 }
 
 #[tactic(auto, unfolding(crate::specs::Unfolded::all_coords))]
-fn say_lines<W: Write + Drop>(qualifiers: &Qualifiers, out: &mut Sink<'_, W>)
-    ensures { Says W.contents out.old out.new (flat_map (λ c. qualifier_line c (spread_in qualifiers.now c)) all_coords) }
+fn write_lines<W: Write + Drop>(qualifiers: &Qualifiers, out: &mut W) -> io::Result<()>
+    ensures { Writes W.contents out.old out.new result (flat_map (λ c. qualifier_line c (spread_in qualifiers.now c)) all_coords) }
 {
-    say_each_line(qualifiers, &Coord::ALL, out);
+    write_each_line(qualifiers, &Coord::ALL, out)
 }
 
 #[tactic(auto, using(crate::proofs::AnySteps::finds))]
-fn say_each_line<W: Write + Drop>(qualifiers: &Qualifiers, coords: &[Coord], out: &mut Sink<'_, W>)
-    ensures { Says W.contents out.old out.new (flat_map (λ c. qualifier_line c (spread_in qualifiers.now c)) coords.now) }
+fn write_each_line<W: Write + Drop>(
+    qualifiers: &Qualifiers,
+    coords: &[Coord],
+    out: &mut W,
+) -> io::Result<()>
+    ensures { Writes W.contents out.old out.new result (flat_map (λ c. qualifier_line c (spread_in qualifiers.now c)) coords.now) }
 {
     for coord in coords {
-        say_qualifier(*coord, qualifiers.spread(*coord), out);
+        write_qualifier(*coord, qualifiers.spread(*coord), out)?;
     }
+    Ok(())
 }
 
-// Says the qualifiers that the box lacks, and tells whether there are some.
+// Writes the qualifiers that the box lacks, and says whether there are some.
 #[tactic(auto, unfolding(crate::specs::SurveyOutput::lacking_text, crate::specs::SurveyOutput::lacks_some, crate::specs::Unfolded::all_coords))]
-fn say_all_lacking<W: Write + Drop>(
+fn write_all_lacking<W: Write + Drop>(
     opened: &Opened<'_>,
     qualifiers: &Qualifiers,
-    out: &mut Sink<'_, W>,
-) -> bool
+    out: &mut W,
+) -> io::Result<bool>
     requires { (c : coord.Coord) → spread_in qualifiers.now c ≡ spread_of (numbers_at c (rows_in_stack opened.now.stack)) }
-    ensures text { Says W.contents out.old out.new (lacking_text (opened_of opened.now)) }
-    ensures lacks { result ≡ lacks_some (opened_of opened.now) }
+    ensures text { Writes W.contents out.old out.new result (lacking_text (opened_of opened.now)) }
+    ensures lacks { IfOk result (λ some. some ≡ lacks_some (opened_of opened.now)) }
 {
-    say_each_lacking(opened, qualifiers, &Coord::ALL, out)
+    write_each_lacking(opened, qualifiers, &Coord::ALL, out)
 }
 
 #[tactic(auto, using(crate::proofs::AnySteps::finds))]
-fn say_each_lacking<W: Write + Drop>(
+fn write_each_lacking<W: Write + Drop>(
     opened: &Opened<'_>,
     qualifiers: &Qualifiers,
     coords: &[Coord],
-    out: &mut Sink<'_, W>,
-) -> bool
+    out: &mut W,
+) -> io::Result<bool>
     requires { (c : coord.Coord) → spread_in qualifiers.now c ≡ spread_of (numbers_at c (rows_in_stack opened.now.stack)) }
-    ensures text { Says W.contents out.old out.new
+    ensures text { Writes W.contents out.old out.new result
         (flat_map (λ c. lacking_line (lacks (opened_of opened.now).sets (rows_in_stack opened.now.stack) c) c) coords.now) }
-    ensures lacks { result ≡ list_any (lacks (opened_of opened.now).sets (rows_in_stack opened.now.stack)) coords.now }
+    ensures lacks { IfOk result (λ some. some ≡ list_any (lacks (opened_of opened.now).sets (rows_in_stack opened.now.stack)) coords.now) }
 {
     let mut some = false;
     for coord in coords {
         let lacking = opened.lacks(*coord, qualifiers.spread(*coord));
-        say_lacking(lacking, *coord, out);
+        write_lacking(lacking, *coord, out)?;
         some |= lacking;
     }
-    some
+    Ok(some)
 }
 
-// Says the line of a qualifier, if the box lacks it.
+// Writes the line of a qualifier, if the box lacks it.
 #[tactic(auto, unfolding(crate::specs::SurveyText::lacking_line))]
-fn say_lacking<W: Write + Drop>(lacking: bool, coord: Coord, out: &mut Sink<'_, W>)
-    ensures { Says W.contents out.old out.new (lacking_line lacking coord) }
+fn write_lacking<W: Write + Drop>(lacking: bool, coord: Coord, out: &mut W) -> io::Result<()>
+    ensures { Writes W.contents out.old out.new result (lacking_line lacking coord) }
 {
     if lacking {
-        say_lacks(coord, out);
+        write_lacks(coord, out)
+    } else {
+        Ok(())
     }
 }

@@ -1,151 +1,159 @@
-//! What a survey found, said.
+//! What a survey found, written.
 
 ghost use Rattle.std.specs.List.{flat_map};
-ghost use Rattle.sink.specs.Says.{Says};
+ghost use Rattle.contract_words.specs.Writes.{Writes};
 ghost use Rattle.report_commands.specs.Finding.{all_findings};
 ghost use Rattle.report_commands.specs.Findings.{tally_in};
 ghost use Rattle.report_commands.specs.SurveyText.{site_text, weight_text, tally_text, found_line, shared_line, range_text, number_text, qualifier_line, lacks_line};
 
 use crate::finding::Finding;
 use crate::findings::Findings;
-use crate::parts::{
-    say_coord, say_id, say_layer, say_locale, say_long_number, say_named_coord, say_named_number,
-};
 use crate::qualifiers::Spread;
 use crate::site::Site;
+use answer_text::{write_id, write_layer, write_named_coord, write_named_number};
 use command_base::{Coord, Locale, SharedNames};
-use sink::Sink;
-use std::io::Write;
+use locales::write_locale;
+use std::io::{self, Write};
 
-/// Says a line for each finding that a layer has.
+/// Writes a line for each finding that a layer has.
 #[tactic(auto, unfolding(crate::specs::Unfolded::all_findings))]
-pub(crate) fn say_findings<W: Write + Drop>(
+pub(crate) fn write_findings<W: Write + Drop>(
     layer: usize,
     findings: &Findings,
-    out: &mut Sink<'_, W>,
-)
-    ensures { Says W.contents out.old out.new (flat_map (λ finding. found_line layer finding (tally_in findings.now finding)) all_findings) }
+    out: &mut W,
+) -> io::Result<()>
+    ensures { Writes W.contents out.old out.new result (flat_map (λ finding. found_line layer finding (tally_in findings.now finding)) all_findings) }
 {
-    say_each_finding(layer, findings, &Finding::ALL, out);
+    write_each_finding(layer, findings, &Finding::ALL, out)
 }
 
 #[tactic(auto, using(crate::proofs::AnySteps::finds))]
-fn say_each_finding<W: Write + Drop>(
+fn write_each_finding<W: Write + Drop>(
     layer: usize,
     findings: &Findings,
     kinds: &[Finding],
-    out: &mut Sink<'_, W>,
-)
-    ensures { Says W.contents out.old out.new (flat_map (λ finding. found_line layer finding (tally_in findings.now finding)) kinds.now) }
+    out: &mut W,
+) -> io::Result<()>
+    ensures { Writes W.contents out.old out.new result (flat_map (λ finding. found_line layer finding (tally_in findings.now finding)) kinds.now) }
 {
     for finding in kinds {
-        say_found(layer, *finding, findings, out);
+        write_found(layer, *finding, findings, out)?;
     }
+    Ok(())
 }
 
 #[tactic(auto, unfolding(crate::specs::SurveyText::found_line))]
-fn say_found<W: Write + Drop>(
+fn write_found<W: Write + Drop>(
     layer: usize,
     finding: Finding,
     findings: &Findings,
-    out: &mut Sink<'_, W>,
-)
-    ensures { Says W.contents out.old out.new (found_line layer finding (tally_in findings.now finding)) }
+    out: &mut W,
+) -> io::Result<()>
+    ensures { Writes W.contents out.old out.new result (found_line layer finding (tally_in findings.now finding)) }
 {
     if findings.count(finding) == 0 {
-        return;
+        return Ok(());
     }
-    say_weight(finding, out);
-    say_layer(layer, out);
-    out.say(b" ");
-    say_tally(finding, findings, out);
-    out.say(b"\n");
+    write_weight(finding, out)?;
+    write_layer(layer, out)?;
+    out.write_all(b" ")?;
+    write_tally(finding, findings, out)?;
+    out.write_all(b"\n")
 }
 
 #[tactic(auto, unfolding(crate::specs::SurveyText::weight_text))]
-fn say_weight<W: Write + Drop>(finding: Finding, out: &mut Sink<'_, W>)
-    ensures { Says W.contents out.old out.new (weight_text finding) }
+fn write_weight<W: Write + Drop>(finding: Finding, out: &mut W) -> io::Result<()>
+    ensures { Writes W.contents out.old out.new result (weight_text finding) }
 {
     if finding.differs() {
-        out.say(b"warning ");
+        out.write_all(b"warning ")
     } else {
-        out.say(b"note ");
+        out.write_all(b"note ")
     }
 }
 
 #[tactic(auto, unfolding(crate::specs::SurveyText::tally_text))]
-fn say_tally<W: Write + Drop>(finding: Finding, findings: &Findings, out: &mut Sink<'_, W>)
-    ensures { Says W.contents out.old out.new (tally_text finding (tally_in findings.now finding)) }
+fn write_tally<W: Write + Drop>(
+    finding: Finding,
+    findings: &Findings,
+    out: &mut W,
+) -> io::Result<()>
+    ensures { Writes W.contents out.old out.new result (tally_text finding (tally_in findings.now finding)) }
 {
-    say_named_number(finding.name(), u128::from(findings.count(finding)), out);
-    out.say(b" first ");
-    say_site(findings.first(finding), out);
+    write_named_number(finding.name(), u128::from(findings.count(finding)), out)?;
+    out.write_all(b" first ")?;
+    write_site(findings.first(finding), out)
 }
 
 #[tactic(auto, unfolding(crate::specs::SurveyText::site_text))]
-fn say_site<W: Write + Drop>(site: Site, out: &mut Sink<'_, W>)
-    ensures { Says W.contents out.old out.new (site_text site) }
+fn write_site<W: Write + Drop>(site: Site, out: &mut W) -> io::Result<()>
+    ensures { Writes W.contents out.old out.new result (site_text site) }
 {
     match site {
-        Site::Chunk(place) => out.say_count(place),
-        Site::Row(id) => say_id(id, out),
+        Site::Chunk(place) => write!(out, "{place}"),
+        Site::Row(id) => write_id(id, out),
     }
 }
 
-/// Says the line of the ids whose names stand for others, where there are some.
+/// Writes the line of the ids whose names stand for others, where there are some.
 #[tactic(auto, unfolding(crate::specs::SurveyText::shared_line))]
-pub(crate) fn say_shared<W: Write + Drop>(shared: Option<SharedNames>, out: &mut Sink<'_, W>)
-    ensures { Says W.contents out.old out.new (shared_line shared) }
+pub(crate) fn write_shared<W: Write + Drop>(
+    shared: Option<SharedNames>,
+    out: &mut W,
+) -> io::Result<()>
+    ensures { Writes W.contents out.old out.new result (shared_line shared) }
 {
     let Some(shared) = shared else {
-        return;
+        return Ok(());
     };
-    say_named_number("warning shared-names", shared.count as u128, out);
-    out.say(b" first ");
-    say_id(shared.first, out);
-    out.say(b"\n");
+    write_named_number("warning shared-names", shared.count as u128, out)?;
+    out.write_all(b" first ")?;
+    write_id(shared.first, out)?;
+    out.write_all(b"\n")
 }
 
-/// Says the line of a qualifier that rows have.
+/// Writes the line of a qualifier that rows have.
 #[tactic(auto, unfolding(crate::specs::SurveyText::qualifier_line))]
-pub(crate) fn say_qualifier<W: Write + Drop>(coord: Coord, spread: Spread, out: &mut Sink<'_, W>)
-    ensures { Says W.contents out.old out.new (qualifier_line coord spread) }
+pub(crate) fn write_qualifier<W: Write + Drop>(
+    coord: Coord,
+    spread: Spread,
+    out: &mut W,
+) -> io::Result<()>
+    ensures { Writes W.contents out.old out.new result (qualifier_line coord spread) }
 {
     if spread.count == 0 {
-        return;
+        return Ok(());
     }
-    say_named_coord("qualifier", coord, out);
-    say_named_number(" rows", u128::from(spread.count), out);
-    say_range(coord, spread, out);
-    out.say(b"\n");
+    write_named_coord("qualifier", coord, out)?;
+    write_named_number(" rows", u128::from(spread.count), out)?;
+    write_range(coord, spread, out)?;
+    out.write_all(b"\n")
 }
 
 #[tactic(auto, unfolding(crate::specs::SurveyText::range_text))]
-fn say_range<W: Write + Drop>(coord: Coord, spread: Spread, out: &mut Sink<'_, W>)
-    ensures { Says W.contents out.old out.new (range_text coord spread) }
+fn write_range<W: Write + Drop>(coord: Coord, spread: Spread, out: &mut W) -> io::Result<()>
+    ensures { Writes W.contents out.old out.new result (range_text coord spread) }
 {
-    out.say(b" from ");
-    say_number_of(coord, spread.least, out);
-    out.say(b" to ");
-    say_number_of(coord, spread.greatest, out);
+    out.write_all(b" from ")?;
+    write_number(coord, spread.least, out)?;
+    out.write_all(b" to ")?;
+    write_number(coord, spread.greatest, out)
 }
 
 #[tactic(auto, unfolding(crate::specs::SurveyText::number_text))]
-fn say_number_of<W: Write + Drop>(coord: Coord, number: u64, out: &mut Sink<'_, W>)
-    ensures { Says W.contents out.old out.new (number_text coord number) }
+fn write_number<W: Write + Drop>(coord: Coord, number: u64, out: &mut W) -> io::Result<()>
+    ensures { Writes W.contents out.old out.new result (number_text coord number) }
 {
     match coord {
-        Coord::Locale => say_locale(Locale::of_number(number), out),
-        _ => say_long_number(number, out),
+        Coord::Locale => write_locale(Locale::of_number(number), out),
+        _ => write!(out, "{number}"),
     }
 }
 
-/// Says the line of a qualifier that the box lacks.
+/// Writes the line of a qualifier that the box lacks.
 #[tactic(auto, unfolding(crate::specs::SurveyText::lacks_line))]
-pub(crate) fn say_lacks<W: Write + Drop>(coord: Coord, out: &mut Sink<'_, W>)
-    ensures { Says W.contents out.old out.new (lacks_line coord) }
+pub(crate) fn write_lacks<W: Write + Drop>(coord: Coord, out: &mut W) -> io::Result<()>
+    ensures { Writes W.contents out.old out.new result (lacks_line coord) }
 {
-    out.say(b"warning box lacks ");
-    say_coord(coord, out);
-    out.say(b"\n");
+    writeln!(out, "warning box lacks {coord}")
 }

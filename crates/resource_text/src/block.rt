@@ -8,10 +8,9 @@ ghost use Rattle.resource_text.specs.ChangeJson.{change_data};
 ghost use Rattle.resource_text.specs.DifferenceText.{difference_text};
 
 use crate::change_json::change_json;
-use crate::difference_text::say_difference;
+use crate::difference_text::write_difference;
 use crate::line_form::LineForm;
 use answer_text::Form;
-use sink::Sink;
 use stack_diff::{ConfigBox, Difference, PackageNames};
 use std::alloc::{AllocError, Global};
 
@@ -44,9 +43,7 @@ fn text_block(
     ensures { IfOk result (λ block. block.items ≡ difference_text form packages.now (difference_of difference.now) whole.now part.now) }
 {
     let mut block = Vec::new(alloc);
-    let mut sink = Sink::new(&mut block);
-    say_difference(form, packages, difference, whole, part, &mut sink);
-    match sink.end() {
+    match write_difference(form, packages, difference, whole, part, &mut block) {
         Ok(()) => Ok(block),
         // To a `Vec` only a want of memory is a fault.
         Err(_) => Err(AllocError),

@@ -11,11 +11,10 @@ ghost use Rattle.resource_text.specs.ChangeJson.{with_key, with_row_value, with_
 
 use crate::content_json::{content_json, key_json, row_value_json};
 use crate::devices_json::devices_json;
-use crate::devices_text::say_devices_in;
+use crate::devices_text::write_devices_in;
 use crate::text_json::text_json;
 use answer_text::{Content, Form, RowKey, ValueContent};
 use serde_json::{Map, Value, put};
-use sink::Sink;
 use stack_diff::{ConfigBox, Difference, PackageNames, RowDifference};
 use std::alloc::{AllocError, Global};
 
@@ -110,9 +109,7 @@ fn device_words_json(
     ensures { IfOk result (λ words. view words ≡ text_data (device_words whole.now part.now)) }
 {
     let mut text = Vec::new(alloc);
-    let mut sink = Sink::new(&mut text);
-    say_devices_in(Form::Android, whole, part, &mut sink);
-    match sink.end() {
+    match write_devices_in(Form::Android, whole, part, &mut text) {
         Ok(()) => text_json(alloc, text.get(ON.len()..).unwrap_or(&[])),
         // To a `Vec` only a want of memory is a fault.
         Err(_) => Err(AllocError),

@@ -2,50 +2,17 @@
 
 ghost use Rattle.std.specs.Prelude.{◌++◌};
 ghost use Rattle.contract_words.specs.Writes.{Writes};
-ghost use Rattle.sink.specs.Says.{Says};
 ghost use Rattle.stack_diff.specs.names.Label.{label_of};
 ghost use Rattle.answer_text.specs.ContentSeen.{content_of};
 ghost use Rattle.stack_diff.specs.names.LabelText.{label_text};
 ghost use Rattle.resource_text.specs.ContentText.{content_text, content_behind};
 
 use answer_text::{Content, Form, write_value_in};
-use sink::Sink;
 use stack_diff::{Label, PackageNames};
 use std::io::{self, Write};
 
-/// Says what a resource says.
-pub(crate) fn say_content<W: Write + Drop>(
-    form: Form,
-    packages: &PackageNames<'_>,
-    content: &Content<'_>,
-    out: &mut Sink<'_, W>,
-)
-    ensures { Says W.contents out.old out.new (content_text form packages.now (content_of content.now)) }
-{
-    if out.is_whole() {
-        let wrote = write_content(form, packages, content, out.writer);
-        out.keep(wrote);
-    }
-}
-
-/// Says it behind a label: of a bag nothing, whose rows have lines of their own.
-#[tactic(auto, unfolding(crate::specs::ContentText::content_behind))]
-pub(crate) fn say_content_behind<W: Write + Drop>(
-    form: Form,
-    packages: &PackageNames<'_>,
-    content: &Content<'_>,
-    out: &mut Sink<'_, W>,
-)
-    ensures { Says W.contents out.old out.new (content_behind form packages.now (content_of content.now)) }
-{
-    if !matches!(content, Content::Bag(_)) {
-        out.say(b" ");
-        say_content(form, packages, content, out);
-    }
-}
-
 #[tactic(auto, unfolding(crate::specs::ContentText::content_text))]
-fn write_content<W: Write + Drop>(
+pub(crate) fn write_content<W: Write + Drop>(
     form: Form,
     packages: &PackageNames<'_>,
     content: &Content<'_>,
@@ -67,6 +34,23 @@ fn write_content<W: Write + Drop>(
             out,
         ),
     }
+}
+
+/// Writes it behind a label: of a bag nothing, whose rows have lines of their own.
+#[tactic(auto, unfolding(crate::specs::ContentText::content_behind))]
+pub(crate) fn write_content_behind<W: Write + Drop>(
+    form: Form,
+    packages: &PackageNames<'_>,
+    content: &Content<'_>,
+    out: &mut W,
+) -> io::Result<()>
+    ensures { Writes W.contents out.old out.new result (content_behind form packages.now (content_of content.now)) }
+{
+    if matches!(content, Content::Bag(_)) {
+        return Ok(());
+    }
+    out.write_all(b" ")?;
+    write_content(form, packages, content, out)
 }
 
 fn write_with_label<W: Write + Drop>(

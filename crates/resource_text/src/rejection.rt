@@ -4,18 +4,15 @@ ghost use Rattle.std.specs.Prelude.{◌≡◌, map, slice_get};
 ghost use Rattle.std.specs.List.{flat_map};
 ghost use Rattle.std.specs.Option.{option_copied, option_map};
 ghost use Rattle.contract_words.specs.Writes.{Writes};
-ghost use Rattle.sink.specs.Says.{Says};
-ghost use Rattle.cert_maker.specs.cert_checker.Rule.{name_of, number_of};
 ghost use Rattle.cert_maker.specs.cert_tree.Certificate.{goal_of, goals_of};
 ghost use Rattle.cert_maker.specs.res_value.Goal.{goal_seen};
 ghost use Rattle.resource_text.specs.RejectionNotation.{claim_at, claim_in, claimed_line, fault_words, goal_or_place, rejected_notation, rejection_in, rejection_notation, rejections_in, rule_words, shown_notation, shown_of, verdict_in};
 
-use crate::verdict::{say_accepted, say_failed, say_rejection};
+use crate::verdict::{write_accepted, write_failed, write_rejection};
 use answer_notation::{Naming, write_claimed_end, write_device, write_goal, write_two_devices};
 use cert_maker::{Cert, Goal, Rule, Shown, Verdict};
 use cert_tree::{CertGoal, Node};
 use command_base::End;
-use sink::Sink;
 use std::io::{self, Write};
 
 /// A rejection, and where the node says that its goal ends at which it is, if that is a leaf.
@@ -52,26 +49,10 @@ pub fn write_verdict_in<W: Write + Drop>(
     ensures { Writes W.contents out.old out.new result (verdict_in (option_copied naming.entry) (map goal_seen goals.now)
         (goals_of certificate.now) verdict.now) }
 {
-    let mut sink = Sink::new(out);
-    say_verdict_in(naming, goals, certificate, verdict, &mut sink);
-    sink.end()
-}
-
-fn say_verdict_in<W: Write + Drop>(
-    naming: Option<&Naming<'_, '_, '_>>,
-    goals: &[Goal],
-    certificate: &Cert,
-    verdict: &Verdict,
-    out: &mut Sink<'_, W>,
-)
-    ensures { Says W.contents out.old out.new (verdict_in (option_copied naming.entry) (map goal_seen goals.now)
-        (goals_of certificate.now) verdict.now) }
-{
     match verdict {
-        Verdict::Accepted => say_accepted(certificate, out),
+        Verdict::Accepted => write_accepted(certificate, out),
         Verdict::Rejected { .. } => {
-            let rejection = Rejection::of(*verdict, certificate);
-            say_rejection_in(naming, goals, &rejection, out);
+            write_rejection_in(naming, goals, &Rejection::of(*verdict, certificate), out)
         }
     }
 }
@@ -88,54 +69,40 @@ pub fn write_rejections_in<W: Write + Drop>(
     ensures { Writes W.contents out.old out.new result (rejections_in (option_copied naming.entry) (map goal_seen goals.now)
         rejections.now of) }
 {
-    let mut sink = Sink::new(out);
-    say_each(naming, goals, rejections, &mut sink);
-    say_failed(rejections.len(), of, &mut sink);
-    sink.end()
+    write_each(naming, goals, rejections, out)?;
+    write_failed(rejections.len(), of, out)
 }
 
-#[tactic(auto, using(sink::proofs::SaysSteps::says_all))]
-fn say_each<W: Write + Drop>(
+#[tactic(auto, using(contract_words::proofs::TextSteps::puts))]
+fn write_each<W: Write + Drop>(
     naming: Option<&Naming<'_, '_, '_>>,
     goals: &[Goal],
     rejections: &[Rejection],
-    out: &mut Sink<'_, W>,
-)
-    ensures { Says W.contents out.old out.new
+    out: &mut W,
+) -> io::Result<()>
+    ensures { Writes W.contents out.old out.new result
         (flat_map (rejection_in (option_copied naming.entry) (map goal_seen goals.now)) rejections.now) }
 {
     for rejection in rejections {
-        say_rejection_in(naming, goals, rejection, out);
+        write_rejection_in(naming, goals, rejection, out)?;
     }
+    Ok(())
 }
 
-fn say_rejection_in<W: Write + Drop>(
+fn write_rejection_in<W: Write + Drop>(
     naming: Option<&Naming<'_, '_, '_>>,
     goals: &[Goal],
     rejection: &Rejection,
-    out: &mut Sink<'_, W>,
-)
-    ensures { Says W.contents out.old out.new
+    out: &mut W,
+) -> io::Result<()>
+    ensures { Writes W.contents out.old out.new result
         (rejection_in (option_copied naming.entry) (map goal_seen goals.now) rejection.now) }
 {
     match naming {
-        Some(naming) => say_notation(naming, goals, rejection.claimed, &rejection.verdict, out),
-        None => say_rejection(&rejection.verdict, out),
-    }
-}
-
-fn say_notation<W: Write + Drop>(
-    naming: &Naming<'_, '_, '_>,
-    goals: &[Goal],
-    claimed: Option<End>,
-    verdict: &Verdict,
-    out: &mut Sink<'_, W>,
-)
-    ensures { Says W.contents out.old out.new (rejection_notation naming.now (map goal_seen goals.now) claimed verdict.now) }
-{
-    if out.is_whole() {
-        let wrote = write_notation(naming, goals, claimed, verdict, out.writer);
-        out.keep(wrote);
+        Some(naming) => {
+            write_notation(naming, goals, rejection.claimed, &rejection.verdict, out)
+        }
+        None => write_rejection(&rejection.verdict, out),
     }
 }
 
@@ -177,30 +144,20 @@ fn write_rejected<W: Write + Drop>(
 {
     out.write_all(b"rejected ")?;
     write_goal_or_place(naming, goals, goal, out)?;
-    write_fault(node, rule, out)
-}
-
-fn write_fault<W: Write + Drop>(node: usize, rule: Rule, out: &mut W) -> io::Result<()>
-    ensures { Writes W.contents out.old out.new result (fault_words node (number_of rule) (name_of rule) (rule_words rule)) }
-{
-    let mut sink = Sink::new(out);
-    say_fault(node, rule, &mut sink);
-    sink.end()
+    write_fault(node, rule.number(), rule.name(), rule_words(rule), out)
 }
 
 #[tactic(auto, unfolding(crate::specs::RejectionNotation::fault_words))]
-fn say_fault<W: Write + Drop>(node: usize, rule: Rule, out: &mut Sink<'_, W>)
-    ensures { Says W.contents out.old out.new (fault_words node (number_of rule) (name_of rule) (rule_words rule)) }
+fn write_fault<W: Write + Drop>(
+    node: usize,
+    rule: u8,
+    name: &str,
+    words: &str,
+    out: &mut W,
+) -> io::Result<()>
+    ensures { Writes W.contents out.old out.new result (fault_words node rule name.now words.now) }
 {
-    out.say(b" node ");
-    out.say_count(node);
-    out.say(b" N");
-    out.say_number(u32::from(rule.number()));
-    out.say(b" ");
-    out.say(rule.name().as_bytes());
-    out.say(b": ");
-    out.say(rule_words(rule).as_bytes());
-    out.say(b"\n");
+    writeln!(out, " node {node} N{rule} {name}: {words}")
 }
 
 fn write_goal_or_place<W: Write + Drop>(

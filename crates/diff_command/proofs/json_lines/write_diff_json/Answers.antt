@@ -1,9 +1,8 @@
-use Rattle.std.proofs.Common.{ap, codes, ◌∙◌}
-use Rattle.sink.proofs.SaysSteps.{Says-then}
-use Rattle.diff_command.specs.JsonLines.{begin_counts, counts_json, diff_json}
+use Rattle.std.proofs.Common.{ap, ◌∙◌}
+use Rattle.std.proofs.KnownBytes.{Appends-trans}
+use Rattle.std.proofs.lemmas.Result.{on_ok_weaker}
+use Rattle.diff_command.specs.JsonLines.{diff_json}
 use Rattle.diff_command.specs.StackCounts.{counts_of}
-use Rattle.diff_command.specs.declared.stack_counts.StackCounts.{StackCounts}
-use Rattle.diff_command.proofs.Said.{said-of, said-to-end}
 use Rattle.diff_command.proofs.json_lines.write_diff_json.Goals as goal
 
 pub returns : goal.returns
@@ -11,9 +10,10 @@ unfolding diff_json
 returns g c =
     let old = c.of-old.ensures ∙ ap (counts_of c.args.rule) c.old_stack.ensures in
     let new = c.of-new.ensures ∙ ap (counts_of c.args.rule) c.new_stack.ensures in
-    let names = rw c.requires at c.say_names.ensures in
-    let shared = said-of _ _ _ (counts_json (begin_counts (codes "shared-names"))) _ _ _ _ (ap (λ (counts : StackCounts). counts.shared_names) old) (ap (λ (counts : StackCounts). counts.shared_names) new) c.say_counts.ensures in
-    let aside = said-of _ _ _ (counts_json (begin_counts (codes "set-aside"))) _ _ _ _ (ap (λ (counts : StackCounts). counts.set_aside) old) (ap (λ (counts : StackCounts). counts.set_aside) new) c.say_counts-2.ensures in
-    let same = rw c.same_count-same.ensures at c.say_count.ensures in
-    let said = Says-then _ _ _ _ _ _ (Says-then _ _ _ _ _ _ (Says-then _ _ _ _ _ _ names shared) aside) same in
-    said-to-end _ _ _ _ _ _ _ _ _ c.new-sink.ensures.same_writer c.new-sink.ensures.nothing_said c.new-sink.ensures.whole said c.end.ensures.fault c.end.ensures.written assumption
+    let names = rw c.requires at c.in_ok-write_names.ensures in
+    let shared = rw (old, new) at c.in_ok-write_counts.ensures in
+    let aside = rw (old, new) at c.in_ok-write_counts-2.ensures in
+    let same = rw c.same_count.ensures at c.write_count.ensures in
+    let to_shared = Appends-trans _ _ _ _ _ names shared in
+    let to_aside = Appends-trans _ _ _ _ _ to_shared aside in
+    on_ok_weaker c.write_count.result (λ last. Appends-trans _ _ _ _ _ to_aside last) same

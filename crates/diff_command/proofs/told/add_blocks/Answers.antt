@@ -1,5 +1,4 @@
 use Rattle.std.proofs.Common.{map}
-use Rattle.std.proofs.lemmas.List.{take_all}
 use Rattle.resource_text.specs.ChangeBlock.{change_block}
 use Rattle.stack_diff.specs.DifferenceSeen.{difference_of}
 use Rattle.diff_command.proofs.Mapped.{one-more}
@@ -12,6 +11,3 @@ loop-part-preserved c =
     let block = rw c.deref.ensures at c.in_ok-block.ensures in
     one-more (λ block. block.items) of base c.loop-part.blocks.items c.push.new.self.items c.deref-part-items.result.now c.loop-part.part-index c.in_ok-block.block c.part-item.result
     c.loop-part-test.true c.part-item.is c.loop-part.invariant c.in_ok-push.ensures.items block
-
-pub returns : goal.returns
-returns c = rw (take_all c.loop-part.part-index c.deref-part-items.result.now c.loop-part-test.false, c.deref-part-items.ensures.value) at c.loop-part.invariant

@@ -1,8 +1,6 @@
-use Rattle.std.proofs.Common.{ap, map, ◌∙◌}
-use Rattle.std.proofs.lemmas.List.{take_all}
-use Rattle.answer_text.specs.InOrder.{in_order}
+use Rattle.std.proofs.Common.{map}
 use Rattle.stack_diff.specs.Changes.{change_of}
-use Rattle.diff_command.specs.Telling.{blocks_of, change_blocks, is_block_before}
+use Rattle.diff_command.specs.Telling.{change_blocks}
 use Rattle.diff_command.proofs.Mapped.{all-more}
 use Rattle.diff_command.proofs.told.blocks_of.Goals as goal
 
@@ -10,9 +8,3 @@ pub loop-change-preserved : goal.loop-change-preserved
 loop-change-preserved c =
     all-more change_of (change_blocks c.args.form c.args.packages.now c.args.whole.now) (map (λ block. block.items) c.loop-change.blocks.items) (map (λ block. block.items) c.add_blocks.new.blocks.items)
     c.args.changes.now c.loop-change.change-index c.change-item.result c.loop-change-test.true c.change-item.is c.loop-change.invariant c.in_ok-add_blocks.ensures
-
-pub returns : goal.returns
-unfolding blocks_of
-returns c =
-    let all = rw (take_all c.loop-change.change-index c.args.changes.now c.loop-change-test.false) at c.loop-change.invariant in
-    c.in_ok-sort_blocks.ensures ∙ ap (in_order is_block_before) all

@@ -17,16 +17,15 @@ loop-of_layer-preserved c =
     let second = seen-next (λ of_layer. of_layer.items) c.args.uses.now place item (omega (arith, before.place, c.loop-of_layer-test.true))
     (subst (λ i. item ≡ get_or c.args.uses.now i item) (sym before.place) c.of_layer-item.is) in
     let split = both-next _ _ _ _ found.0 item.items found.1 second in
-    let own = c.deref-in-loop-of_layer.ensures.value in
-    let told = c.in_ok-push_layer.ensures.1 found.0 found.2 in record {
+    let own = c.deref-in-loop-of_layer.ensures.value in record {
       apart = before.apart;
       place = ap (λ i. i + 1) before.place;
       few = omega (arith, there.3.0, ap length c.deref.ensures.value, c.in_ok-layers.ensures.few);
       text = text-next _ _ _ place _ _ (found.0, item.items) before.text
-          (subst (λ uses. c.push_layer.new.text.items ≡ c.loop-of_layer.text.items ++ layer_lines (place, (found.0, uses))) own told.0) split;
+          (subst (λ uses. c.push_layer.new.text.items ≡ c.loop-of_layer.text.items ++ layer_lines (place, (found.0, uses))) own (c.in_ok-push_layer.ensures.text found.0 found.2)) split;
       counted = layer-counted _ _ _ _ _ (found.0, item.items) before.counted
-          (subst (λ uses. c.push_layer.new.totals ≡ fold with_row c.loop-of_layer.totals (used_rows (found.0, uses))) own told.1) split;
-      within = c.in_ok-push_layer.ensures.0;
+          (subst (λ uses. c.push_layer.new.totals ≡ fold with_row c.loop-of_layer.totals (used_rows (found.0, uses))) own (c.in_ok-push_layer.ensures.counted found.0 found.2)) split;
+      within = c.in_ok-push_layer.ensures.within;
     }
 
 pub returns : goal.returns

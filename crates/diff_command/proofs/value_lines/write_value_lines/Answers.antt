@@ -1,19 +1,17 @@
 use Rattle.std.proofs.Common.{ap, ◌∙◌}
 use Rattle.std.proofs.lemmas.List.{length-map}
-use Rattle.sink.proofs.SaysSteps.{Says-then}
+use Rattle.std.proofs.KnownBytes.{Appends-trans}
+use Rattle.std.proofs.lemmas.Result.{on_ok_weaker}
 use Rattle.stack_diff.specs.names.Pairs.{pair_of}
 use Rattle.diff_command.specs.StackCounts.{counts_of}
 use Rattle.diff_command.specs.ValuesOutput.{resources_line, values_lines}
-use Rattle.diff_command.proofs.Said.{said-to-end}
 use Rattle.diff_command.proofs.value_lines.write_value_lines.Goals as goal
 
 pub returns : goal.returns
-unfolding resources_line values_lines
+unfolding values_lines resources_line
 returns g c =
     let counts = c.of-counts.ensures ∙ ap (counts_of c.args.rule) c.new_stack.ensures in
-    let labels = rw c.packages.ensures at c.say_labels.ensures in
-    let shared = rw counts at c.say_count_unless_0.ensures in
-    let aside = rw counts at c.say_count_unless_0-2.ensures in
-    let said = Says-then _ _ _ _ _ _ (Says-then _ _ _ _ _ _ (Says-then _ _ _ _ _ _ labels shared) aside) c.say_count.ensures in
-    rw (length-map c.args.pairs.now pair_of)
-    (said-to-end _ _ _ _ _ _ _ _ _ c.new-sink.ensures.same_writer c.new-sink.ensures.nothing_said c.new-sink.ensures.whole said c.end.ensures.fault c.end.ensures.written assumption)
+    let labels = rw c.packages.ensures at c.in_ok-write_labels.ensures in
+    let to_shared = Appends-trans _ _ _ _ _ labels (rw counts at c.in_ok-write_count_unless_0.ensures) in
+    let to_aside = Appends-trans _ _ _ _ _ to_shared (rw counts at c.in_ok-write_count_unless_0-2.ensures) in
+    rw (length-map c.args.pairs.now pair_of) (on_ok_weaker c.write_count.result (λ last. Appends-trans _ _ _ _ _ to_aside last) c.write_count.ensures)

@@ -1,3 +1,4 @@
+use Rattle.std.proofs.Common.{sym, append_assoc}
 use Rattle.report_commands.specs.TreeText.{goals_line}
 use Rattle.report_commands.proofs.show.push_count.Goals as goal
 

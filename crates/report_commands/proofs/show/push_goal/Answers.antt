@@ -7,8 +7,8 @@ use Rattle.report_commands.specs.TreeLinesSeen.{line_of}
 use Rattle.report_commands.specs.declared.tree_lines.TreeLine.{TreeLine}
 use Rattle.report_commands.proofs.show.push_goal.Goals as goal
 
-pub say_goal-requires : goal.say_goal-requires
-say_goal-requires c =
+pub write_goal-requires : goal.write_goal-requires
+write_goal-requires c =
     ap (λ (lines : List TreeLine). map line_of lines) c.deref.ensures.value
     ∙ c.in_ok-lines.ensures
     ∙ ap (λ (nodes : List Node). tree_lines (map node_of nodes)) c.as_slice.ensures.value

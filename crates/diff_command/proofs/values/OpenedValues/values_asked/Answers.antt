@@ -14,6 +14,3 @@ pub returns-in_err-packages : goal.returns-in_err-packages
 returns-in_err-packages g c =
     let p = err_from_is_err_and c.from_residual-in_err-packages.result c.from_residual-in_err-packages.ensures.1 in
     rw (p.1, p.2) (λ told. absurd (told refl), λ told. refl)
-
-pub values_of-requires : goal.values_of-requires
-values_of-requires g c = rw (c.in_ok-stack.ensures, c.in_ok-packages.ensures) at c.beside_nothing-stacks.ensures

@@ -1,9 +1,0 @@
-use Rattle.sink.proofs.SaysSteps.{SaysAllBut}
-use Rattle.stack_diff.specs.names.Pairs.{pair_of}
-use Rattle.diff_command.specs.DiffLines.{pair_lines}
-use Rattle.diff_command.proofs.PairSteps.{both_from, both_lists}
-use Rattle.diff_command.proofs.lines.say_labels.Given as goal
-
-abbrev pub invariant-loop-place : goal.invariant-loop-place
-invariant-loop-place g l =
-    SaysAllBut g.W.Write.contents (pair_lines l.before l.packages) l.fn.out l.out (both_lists pair_of l.pairs l.told) (both_from pair_of l.pairs l.told l.place)
