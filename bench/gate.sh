@@ -3,16 +3,17 @@
 # the sums, as a table: gate.sh [CRATE..]. Without a crate it measures all, and takes as long as the gate, but for the runs
 # of the built program. Each part works from nothing, with one job, on a copy of the repository, and each proof is as the
 # gate makes it (tools/prove.py --as-ci); those below a named crate are proved too. Where the crates of the fixed proof
-# (README.md) are among them, the sum is printed as a multiple of that too. They are proved five times, once before the others
-# and four times among the tests and edits, since no single one is steady and what runs side by side takes longer: the mean of
-# the five is one fixed proof.
+# (README.md) are among them, the sum is printed as a multiple of that too. They are proved five times: first, beside the second
+# and the last third of the crates, and twice among the tests and edits. For what runs side by side takes longer, and a machine
+# that others share is not as fast all the time: the mean of the five is one fixed proof.
 # The environment may give JOBS, how many tests and edits run side by side; and COPY, a copy of the repository: what
 # tools/prove.py --as-ci proved there is not proved again, and what is proved stays there.
 here=$(CDPATH='' cd "$(dirname "$0")/.." && pwd) || exit 1
 program=$(basename "$0")
 fixed="contract_words chunk_walk json_input apk_member config_record"
-# The parts in which they are proved again.
-again="again1 again2 again3 again4"
+# The parts in which they are proved again: beside other proofs, and among the tests and edits.
+beside="again1 again2"
+among="again3 again4"
 . "$here/tools/crates_below.sh"
 
 # measure WORK CRATE PART COMMAND..: runs a command in the crate's folder of the part's room, and keeps the processor seconds, of
@@ -69,9 +70,16 @@ if [ "$1" = --rest ]; then
     exit 0
 fi
 
+# prove_third N: proves those of the crates that are needed which are in the Nth third of them, or before, and the crates of
+# the fixed proof that are needed.
+prove_third() {
+    asked=$(echo $needed | awk -v third="$1" '{ for (at = 1; at <= int((NF * third + 2) / 3); at++) print $at }')
+    python3 "$copy/tools/prove.py" --as-ci $(fixed_again fixed | cut -d ' ' -f 2) $asked || touch "$work/failed"
+}
+
 # rest: a line for each part that is measured behind the proofs: what it is, and of which crate. The fixed proofs stand between.
 rest() {
-    left=$again
+    left=$among
     for crate in $named; do
         folder=$copy/crates/$crate
         if grep -rq '^ *#\[test\]' "$folder/src"; then echo "tests $crate"; fi
@@ -108,7 +116,14 @@ if [ -z "$COPY" ]; then
     mkdir "$copy" && (cd "$here" && tar -cf - --exclude=.git --exclude=out .) | tar -xf - -C "$copy" || exit 1
 fi
 
-python3 "$copy/tools/prove.py" --as-ci $needed || touch "$work/failed"
+prove_third 1
+third=2
+for part in $beside; do
+    fixed_again "$part" | COPY=$copy xargs -r -n 2 sh "$0" --rest "$work" &
+    prove_third $third
+    wait
+    third=$((third + 1))
+done
 for crate in $needed; do
     sed -n '$s/ processor seconds$//p' "$copy/out/proofs/$crate.log" >"$work/seconds/$crate.proof"
 done
@@ -122,7 +137,7 @@ if [ "$jobs" -lt 1 ]; then jobs=1; fi
 
 {
     for crate in $fixed; do
-        for part in proof $again; do
+        for part in proof $beside $among; do
             echo "fixed $(cat "$work/seconds/$crate.$part" 2>/dev/null || echo none)"
         done
     done
