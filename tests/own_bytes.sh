@@ -13,11 +13,11 @@ trap 'exit 130' INT TERM
 
 # Links share the files: rt writes none of these in place.
 mkdir -p "$work/crates/own_bytes/src" || exit 1
-for crate in $(crates_below "$here/crates.txt" resource_table type_chunks); do
+for crate in $(crates_below "$here/crates.txt" overlay_map type_chunks); do
     cp -al "$here/crates/$crate" "$work/crates/" 2>/dev/null || cp -a "$here/crates/$crate" "$work/crates/" || exit 1
     grep "^${crate}[ :]" "$here/crates.txt" >>"$work/crates.txt"
 done
-echo 'own_bytes: type_chunks resource_table' >>"$work/crates.txt"
+echo 'own_bytes: type_chunks overlay_map' >>"$work/crates.txt"
 [ -f "$here/HANDLES" ] && cp "$here/HANDLES" "$work/"
 
 # is_proved BYTES: proves a function that takes its bytes as BYTES.
@@ -26,7 +26,7 @@ is_proved() {
 //! The first row of a table.
 #![tactic(auto)]
 
-use resource_table::Table;
+use overlay_map::Table;
 use std::alloc::Global;
 use type_chunks::Row;
 

@@ -110,10 +110,11 @@ CHAPTERS = {
     "box_answers": "Boxes of devices",
     "config_box": "Tests and trees",
     "cert_tree": "Tests and trees",
+    "type_entries": "Tables and layers",
     "type_chunks": "Tables and layers",
-    "resource_table": "Tables and layers",
     "overlay_map": "Tables and layers",
     "reference_resolver": "What a device selects, and where an id ends",
+    "bag_rows": "Bags, themes, and where an attribute ends",
     "bags_themes": "Bags, themes, and where an attribute ends",
     "cert_checker": "Which leaf a device reaches",
 }

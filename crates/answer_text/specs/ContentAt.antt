@@ -4,7 +4,7 @@ use Rattle.bags_themes.specs.overlay_map.Layer.{LayerOf}
 use Rattle.bags_themes.specs.reference_resolver.declared.end.End.{End}
 use Rattle.bags_themes.specs.reference_resolver.declared.end.End.TheVariants as of_end
 use Rattle.bags_themes.specs.reference_resolver.Ends.{references_followed, end_of}
-use Rattle.bags_themes.specs.declared.bag_row.BagRow.{BagRow}
+use Rattle.bags_themes.specs.bag_rows.declared.bag_row.BagRow.{BagRow}
 use Rattle.bags_themes.specs.declared.bag_fault.BagFault.{BagFault}
 use Rattle.bags_themes.specs.Bag.{bag_of}
 use Rattle.names.specs.IdLabel.{label_of_id}

@@ -7,9 +7,9 @@ use Rattle.bags_themes.specs.string_pool.Shown.{shown_text, string_text}
 use Rattle.bags_themes.specs.res_value.ResId.{id_text}
 use Rattle.bags_themes.specs.res_value.Word.{word_text}
 use Rattle.bags_themes.specs.type_chunks.Row.{RowOf}
-use Rattle.bags_themes.specs.resource_table.Package.{PackageOf}
-use Rattle.bags_themes.specs.resource_table.Table.{TableOf}
-use Rattle.bags_themes.specs.resource_table.Names.{type_name_in, key_name_in}
+use Rattle.bags_themes.specs.overlay_map.Package.{PackageOf}
+use Rattle.bags_themes.specs.overlay_map.Table.{TableOf}
+use Rattle.bags_themes.specs.overlay_map.Names.{type_name_in, key_name_in}
 use Rattle.answer_text.specs.CellText.{RowFormatOf, row_end_text}
 
 -- four spaces before the lines of a bag, and these strings

@@ -24,10 +24,10 @@ pub mod ValueNotation
 pub mod InForm
 pub use Rattle.contract_words.specs as contract_words
 pub use Rattle.bags_themes.specs as bags_themes
+pub use Rattle.bags_themes.specs.bag_rows
 pub use Rattle.bags_themes.specs.reference_resolver
 pub use Rattle.bags_themes.specs.config_record
 pub use Rattle.bags_themes.specs.overlay_map
 pub use Rattle.bags_themes.specs.res_value
-pub use Rattle.bags_themes.specs.resource_table
 pub use Rattle.bags_themes.specs.type_chunks
 pub use Rattle.bags_themes.specs.string_pool

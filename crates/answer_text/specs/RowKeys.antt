@@ -8,7 +8,7 @@ use Rattle.bags_themes.specs.string_pool.Text.{TextOf, is_text_of}
 use Rattle.bags_themes.specs.string_pool.declared.fault.StringFault.{StringFault}
 use Rattle.bags_themes.specs.overlay_map.BaseRow.{first_base_row}
 use Rattle.bags_themes.specs.overlay_map.Layer.{LayerOf}
-use Rattle.bags_themes.specs.overlay_map.resource_table.Names.{type_name_in}
+use Rattle.bags_themes.specs.overlay_map.Names.{type_name_in}
 use Rattle.names.specs.IdLabel.{label_of_id}
 use Rattle.names.specs.Label.{label_cmp}
 use Rattle.answer_text.specs.declared.content.Quantity.{Quantity}

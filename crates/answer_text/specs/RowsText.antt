@@ -4,7 +4,7 @@ use Rattle.std.specs.List.{flat_map}
 use Rattle.std.specs.Fmt.{decimal}
 use Rattle.bags_themes.specs.res_value.ResId.{id_text}
 use Rattle.bags_themes.specs.type_chunks.Row.{RowOf, set_aside_count}
-use Rattle.bags_themes.specs.resource_table.Table.{TableOf, rows_of}
+use Rattle.bags_themes.specs.overlay_map.Table.{TableOf, rows_of}
 use Rattle.answer_text.specs.CellText.{RowFormatOf, row_end_text}
 
 -- two spaces before the lines of a bag, and no strings

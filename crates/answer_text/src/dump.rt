@@ -3,7 +3,7 @@
 ghost use Rattle.std.specs.List.{flat_map};
 ghost use Rattle.contract_words.specs.Writes.{Writes};
 ghost use Rattle.bags_themes.specs.type_chunks.Row.{row_of};
-ghost use Rattle.bags_themes.specs.resource_table.Package.{package_of};
+ghost use Rattle.bags_themes.specs.overlay_map.Package.{package_of};
 ghost use Rattle.answer_text.specs.DumpText.{package_line, names_text, flags_text, row_text, package_text, dump_text};
 
 use crate::cell::{RowFormat, write_row_end};

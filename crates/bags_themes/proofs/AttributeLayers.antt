@@ -14,17 +14,18 @@ use Rattle.reference_resolver.specs.declared.end.End.TheVariants as ends
 use Rattle.reference_resolver.specs.Selection.{selected}
 use Rattle.reference_resolver.specs.Ends.{is_reference}
 use Rattle.reference_resolver.specs.Trace.{Trace}
-use Rattle.bags_themes.specs.declared.bag_row.BagRow.{BagRow}
+use Rattle.bag_rows.specs.declared.bag_row.BagRow.{BagRow}
 use Rattle.bags_themes.specs.declared.bag_fault.BagFault.{BagFault}
 use Rattle.bags_themes.specs.declared.bag_fault.BagFault.TheVariants as faults
 use Rattle.bags_themes.specs.declared.slot.Slot.{Slot}
 use Rattle.bags_themes.specs.declared.slot.Slot.TheVariants.{Refers, Ends}
 use Rattle.bags_themes.specs.declared.slot.AttributeStep.{AttributeStep}
 use Rattle.bags_themes.specs.declared.slot.AttributeStep.TheVariants.{Follows, Reaches}
-use Rattle.bags_themes.specs.declared.theme_value.ThemeValue.{ThemeValue}
-use Rattle.bags_themes.specs.Merge.{merge}
-use Rattle.bags_themes.specs.Bag.{FoundBagOf, rows_in, bag_in_cell, bag_in, most_parents, parent_of, chain_of, merged, bag_of}
-use Rattle.bags_themes.specs.Theme.{AttributeValues, unset, is_undefined_value, values_after}
+use Rattle.bag_rows.specs.declared.theme_value.ThemeValue.{ThemeValue}
+use Rattle.bag_rows.specs.Merge.{merge, rows_in}
+use Rattle.bag_rows.specs.Undefined.{is_undefined_value}
+use Rattle.bags_themes.specs.Bag.{FoundBagOf, bag_in_cell, bag_in, most_parents, parent_of, chain_of, merged, bag_of}
+use Rattle.bags_themes.specs.Theme.{AttributeValues, unset, values_after}
 use Rattle.bags_themes.specs.Attribute.{attributes_followed, references_after_slot, step_of, slot_of}
 use Rattle.bags_themes.specs.AttributeTrace.{slot_trace, style_end, style_by, styles_trace, attribute_trace}
 use Rattle.contract_words.specs.Faults.{◌>>=◌}

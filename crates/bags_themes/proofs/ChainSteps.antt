@@ -3,16 +3,14 @@ use Rattle.std.proofs.Common.{◌≡◌, ℕ, zero, suc, ◌-◌, ◌<◌, List,
 use Rattle.std.specs.Prelude.{Result, Ok, Err}
 use Rattle.std.proofs.lemmas.List.{map-append}
 use Rattle.contract_words.specs.Sequences.{with_front}
-use Rattle.reference_resolver.specs.res_value.declared.res_id.ResId.{ResId}
-use Rattle.reference_resolver.specs.res_value.declared.value.Value.{Value}
 use Rattle.reference_resolver.specs.overlay_map.Layer.{LayerOf}
 use Rattle.bags_themes.specs.declared.bag_fault.BagFault.{BagFault}
 use Rattle.bags_themes.specs.declared.bag_fault.BagFault.TheVariants.{BagDepth}
-use Rattle.bags_themes.specs.declared.bag_row.BagRow.{BagRow}
+use Rattle.bag_rows.specs.declared.bag_row.BagRow.{BagRow}
 use Rattle.bags_themes.specs.declared.found_bag.FoundBag.{FoundBag}
 use Rattle.bags_themes.specs.FoundBag.{found_bag_of, found_bags_of}
-use Rattle.bags_themes.specs.Merge.{merge}
-use Rattle.bags_themes.specs.Bag.{FoundBagOf, rows_in, parent_of, chain_of, merged}
+use Rattle.bag_rows.specs.Merge.{merge}
+use Rattle.bags_themes.specs.Bag.{FoundBagOf, parent_of, chain_of, merged}
 
 -- the topmost bag
 pub chain_of-top : (stack : List LayerOf) (most : ℕ) (bag : FoundBagOf) (d : List ℕ) → parent_of stack bag d ≡ None → chain_of stack most bag d ≡ Ok (bag ∷ [])
@@ -61,16 +59,6 @@ goes_on_at stack left bag parent d bags next all before added e some =
     ∙ before
 
 -- ---- rows
-
-merge-nothing : (rows : List BagRow) → merge rows [] ≡ rows
-merge-nothing [] = refl
-merge-nothing (first ∷ rows) = refl
-
--- no own row is left
-pub merged_at_end : (all rows left new : List BagRow) (layer : ℕ) (own : List (ResId × Value)) → all ≡ rows ++ merge left (rows_in layer own) → own ≡ [] → new ≡ rows ++ left → new ≡ all
-merged_at_end all rows left new layer own before nothing added =
-    added ∙ ap (λ (t : List BagRow). rows ++ t) (sym (merge-nothing left))
-    ∙ ap (λ (t : List (ResId × Value)). rows ++ merge left (rows_in layer t)) (sym nothing) ∙ sym before
 
 -- the rows of a chain, merged onto these
 abbrev pub merged_onto : List BagRow → List FoundBagOf → List BagRow

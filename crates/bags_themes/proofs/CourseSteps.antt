@@ -15,7 +15,7 @@ use Rattle.reference_resolver.specs.Selection.{selected, step_of}
 use Rattle.reference_resolver.specs.Ends.{cut_off, next_within}
 use Rattle.reference_resolver.specs.Trace.{Trace, scan_look_up, trace_of}
 use Rattle.reference_resolver.proofs.Chains.{ends_within, goes_on_within}
-use Rattle.bags_themes.specs.declared.bag_row.BagRow.{BagRow}
+use Rattle.bag_rows.specs.declared.bag_row.BagRow.{BagRow}
 use Rattle.bags_themes.specs.declared.bag_fault.BagFault.{BagFault}
 use Rattle.bags_themes.specs.Bag.{FoundBagOf, bag_in, parent_of, chain_of, most_parents, merged, bag_of}
 use Rattle.bags_themes.specs.BagIds.{most_bags, ids_after, bag_ids}

@@ -11,7 +11,7 @@ use Rattle.indexmap.proofs.CallerLemmas.{insert_entry-new}
 use Rattle.indexmap.proofs.MapLemmas.{absent_before}
 use Rattle.reference_resolver.specs.overlay_map.declared.content_keys.ContentKeys.{ContentKeys}
 use Rattle.reference_resolver.specs.res_value.declared.res_id.ResId.{ResId}
-use Rattle.bags_themes.specs.declared.theme_value.ThemeValue.{ThemeValue}
+use Rattle.bag_rows.specs.declared.theme_value.ThemeValue.{ThemeValue}
 use Rattle.bags_themes.specs.Theme.{ThemeOf}
 
 -- the values up to a place, and the one there

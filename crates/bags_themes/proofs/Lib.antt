@@ -7,7 +7,6 @@ pub mod ContentCourses
 pub mod Courses
 pub mod AttributeEnds
 pub mod KeySteps
-pub mod MergeSteps
 pub mod EndLayers
 pub mod AttributeLayers
 pub use Rattle.reference_resolver.proofs as reference_resolver_proofs

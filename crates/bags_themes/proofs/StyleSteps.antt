@@ -8,7 +8,7 @@ use Rattle.contract_words.specs.Sequences.{with_front, joined, joined_each}
 use Rattle.contract_words.proofs.SequenceSteps.{with_front_nil, ReadsAllBut, ReadsAllBut-none, ReadsAllBut-next, ReadsAllBut-stops, ReadsAllBut-end}
 use Rattle.reference_resolver.specs.res_value.declared.res_id.ResId.{ResId}
 use Rattle.reference_resolver.specs.overlay_map.Layer.{LayerOf}
-use Rattle.bags_themes.specs.declared.bag_row.BagRow.{BagRow}
+use Rattle.bag_rows.specs.declared.bag_row.BagRow.{BagRow}
 use Rattle.bags_themes.specs.declared.bag_fault.BagFault.{BagFault}
 use Rattle.bags_themes.specs.Bag.{bag_of}
 use Rattle.bags_themes.specs.Theme.{ThemeOf, AttributeValues, value_of, unset, values_after, AppliesRows}

@@ -7,12 +7,13 @@ use Rattle.std.proofs.lemmas.List.{take_more}
 use Rattle.std.proofs.lemmas.List.Elements.{filter-append}
 use Rattle.reference_resolver.specs.res_value.declared.res_id.ResId.{ResId}
 use Rattle.reference_resolver.specs.declared.end.End.TheVariants as ends
-use Rattle.bags_themes.specs.declared.bag_row.BagRow.{BagRow}
-use Rattle.bags_themes.specs.declared.theme_value.ThemeValue.{ThemeValue}
+use Rattle.bag_rows.specs.declared.bag_row.BagRow.{BagRow}
+use Rattle.bag_rows.specs.declared.theme_value.ThemeValue.{ThemeValue}
 use Rattle.bags_themes.specs.declared.slot.Slot.{Slot}
 use Rattle.bags_themes.specs.declared.slot.Slot.TheVariants.{Ends}
 use Rattle.bags_themes.specs.declared.slot.AttributeStep.TheVariants.{Follows, Reaches}
-use Rattle.bags_themes.specs.Theme.{ThemeOf, AttributeValues, value_of, is_undefined, is_undefined_value, values_for, value_after, values_after, AppliesRows}
+use Rattle.bag_rows.specs.Undefined.{is_undefined_value}
+use Rattle.bags_themes.specs.Theme.{ThemeOf, AttributeValues, value_of, is_undefined, values_for, value_after, values_after, AppliesRows}
 use Rattle.bags_themes.specs.Attribute.{step_of, slot_of}
 
 -- ---- the value behind one value more, and behind values

@@ -6,12 +6,13 @@ use Rattle.reference_resolver.specs.overlay_map.Layer.{LayerOf}
 use Rattle.reference_resolver.specs.declared.end.End.{End}
 use Rattle.reference_resolver.specs.declared.end.End.TheVariants as of_end
 use Rattle.reference_resolver.specs.Ends.{is_reference, end_of}
-use Rattle.bags_themes.specs.declared.theme_value.ThemeValue.{ThemeValue}
+use Rattle.bag_rows.specs.Undefined.{is_undefined_value}
+use Rattle.bag_rows.specs.declared.theme_value.ThemeValue.{ThemeValue}
 use Rattle.bags_themes.specs.declared.slot.Slot.{Slot}
 use Rattle.bags_themes.specs.declared.slot.Slot.TheVariants.{Refers, Ends}
 use Rattle.bags_themes.specs.declared.slot.AttributeStep.{AttributeStep}
 use Rattle.bags_themes.specs.declared.slot.AttributeStep.TheVariants.{Follows, Reaches}
-use Rattle.bags_themes.specs.Theme.{AttributeValues, is_undefined_value}
+use Rattle.bags_themes.specs.Theme.{AttributeValues}
 
 -- how many attributes are followed, at most
 abbrev pub attributes_followed : ℕ

@@ -10,7 +10,7 @@ use Rattle.reference_resolver.specs.declared.end.End.TheVariants as of_end
 use Rattle.reference_resolver.specs.declared.step.Step.{Step}
 use Rattle.reference_resolver.specs.Selection.{step_of}
 use Rattle.reference_resolver.specs.Trace.{Trace, scan_look_up, trace_of}
-use Rattle.bags_themes.specs.declared.bag_row.BagRow.{BagRow}
+use Rattle.bag_rows.specs.declared.bag_row.BagRow.{BagRow}
 use Rattle.bags_themes.specs.declared.bag_fault.BagFault.{BagFault}
 use Rattle.bags_themes.specs.declared.bag_fault.BagFault.TheVariants.{BagDepth}
 use Rattle.bags_themes.specs.declared.slot.Slot.{Slot}

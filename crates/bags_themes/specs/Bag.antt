@@ -1,19 +1,17 @@
 -- Bags (AOSP: ResTable::getBagLocked): the rows of a bag, merged into those of its parents. A device is the list of
 -- its numbers.
-use Rattle.std.specs.Prelude.{ℕ, zero, suc, ◌==◌, List, [], ◌∷◌, map, Option, Some, None, Result, Ok, Err, if◌then◌else◌}
+use Rattle.std.specs.Prelude.{ℕ, zero, suc, ◌==◌, List, [], ◌∷◌, Option, Some, None, Result, Ok, Err, if◌then◌else◌}
 use Rattle.std.specs.Result.{result_ok}
 use Rattle.contract_words.specs.Faults.{◌>>=◌}
 use Rattle.contract_words.specs.Sequences.{with_front}
-use Rattle.reference_resolver.specs.res_value.declared.res_id.ResId.{ResId}
-use Rattle.reference_resolver.specs.res_value.declared.value.Value.{Value}
 use Rattle.reference_resolver.specs.res_value.Cell.{CellOf, PlainOf, BagOf}
 use Rattle.reference_resolver.specs.overlay_map.Layer.{LayerOf}
 use Rattle.reference_resolver.specs.overlay_map.Candidates.{CandOf}
 use Rattle.reference_resolver.specs.Selection.{selected}
-use Rattle.bags_themes.specs.declared.bag_row.BagRow.{BagRow}
+use Rattle.bag_rows.specs.declared.bag_row.BagRow.{BagRow}
 use Rattle.bags_themes.specs.declared.bag_fault.BagFault.{BagFault}
 use Rattle.bags_themes.specs.declared.bag_fault.BagFault.TheVariants.{Absent, Plain, BagDepth}
-use Rattle.bags_themes.specs.Merge.{merge}
+use Rattle.bag_rows.specs.Merge.{merge, rows_in}
 
 -- a bag has no more parents than these
 abbrev pub most_parents : ℕ
@@ -26,10 +24,6 @@ most_parents = 64
 pub record FoundBagOf : Type 0 where
   pub parent : ℕ
   pub rows : List BagRow
-
--- the rows of a bag of the layer of this index
-abbrev pub rows_in : ℕ → List (ResId × Value) → List BagRow
-rows_in layer rows = map (λ row. record { name = row.0; layer = layer; value = row.1 }) rows
 
 abbrev pub bag_in_cell : ℕ → CellOf → Result FoundBagOf BagFault
 bag_in_cell layer (PlainOf value) = Err Plain

@@ -12,7 +12,7 @@ use Rattle.reference_resolver.specs.declared.next.Next.TheVariants as nexts
 use Rattle.reference_resolver.specs.Selection.{selected, step_of}
 use Rattle.reference_resolver.specs.Ends.{next_of, cut_off}
 use Rattle.reference_resolver.specs.Trace.{Trace, scan_look_up, trace_of}
-use Rattle.bags_themes.specs.declared.bag_row.BagRow.{BagRow}
+use Rattle.bag_rows.specs.declared.bag_row.BagRow.{BagRow}
 use Rattle.bags_themes.specs.declared.bag_fault.BagFault.{BagFault}
 use Rattle.bags_themes.specs.declared.bag_fault.BagFault.TheVariants.{BagDepth}
 use Rattle.bags_themes.specs.declared.course.Course.{Course}

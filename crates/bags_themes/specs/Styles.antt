@@ -4,7 +4,7 @@ use Rattle.contract_words.specs.Faults.{◌>>=◌}
 use Rattle.contract_words.specs.Sequences.{joined_each}
 use Rattle.reference_resolver.specs.res_value.declared.res_id.ResId.{ResId}
 use Rattle.reference_resolver.specs.overlay_map.Layer.{LayerOf}
-use Rattle.bags_themes.specs.declared.bag_row.BagRow.{BagRow}
+use Rattle.bag_rows.specs.declared.bag_row.BagRow.{BagRow}
 use Rattle.bags_themes.specs.declared.bag_fault.BagFault.{BagFault}
 use Rattle.bags_themes.specs.Bag.{bag_of}
 use Rattle.bags_themes.specs.Theme.{AttributeValues, values_after}

@@ -1,14 +1,14 @@
 -- Themes (AOSP: ResTable::Theme): what styles have set for attributes.
-use Rattle.std.specs.Prelude.{ℕ, ◌≡◌, ◌≢◌, ◌==◌, Bool, true, ◌&&◌, not, List, ◌++◌, map, filter, find, Option, Some, None, Result, Ok, Err, if◌then◌else◌}
+use Rattle.std.specs.Prelude.{ℕ, ◌≡◌, ◌≢◌, ◌==◌, Bool, true, not, List, ◌++◌, map, filter, find, Option, Some, None, Result, Ok, Err, if◌then◌else◌}
 use Rattle.std.specs.List.{last_or}
 use Rattle.std.specs.Map.{lookup}
 use Rattle.std.specs.Option.{option_or}
 use Rattle.reference_resolver.specs.res_value.declared.res_id.ResId.{ResId}
-use Rattle.reference_resolver.specs.res_value.Kind.{null_kind, empty_word}
-use Rattle.bags_themes.specs.declared.bag_row.BagRow.{BagRow}
+use Rattle.bag_rows.specs.Undefined.{is_undefined_value}
+use Rattle.bag_rows.specs.declared.bag_row.BagRow.{BagRow}
 use Rattle.bags_themes.specs.declared.bag_fault.BagFault.{BagFault}
 use Rattle.bags_themes.specs.declared.bag_fault.BagFault.TheVariants.{OutOfMemory}
-use Rattle.bags_themes.specs.declared.theme_value.ThemeValue.{ThemeValue}
+use Rattle.bag_rows.specs.declared.theme_value.ThemeValue.{ThemeValue}
 
 -- attributes and their values; of an attribute that stands twice the first counts
 abbrev pub ThemeOf : Type 0
@@ -26,11 +26,7 @@ value_of theme attr = lookup (λ key. attr == key.0) theme
 abbrev pub unset : AttributeValues
 unset attr = None
 
--- null, but not empty
-abbrev pub is_undefined_value : ThemeValue → Bool
-is_undefined_value set = set.value.kind == null_kind && not (set.value.word == empty_word)
-
--- unset, or set to such a value
+-- unset, or set to a value that is undefined
 abbrev pub is_undefined : Option ThemeValue → Bool
 is_undefined None = true
 is_undefined (Some set) = is_undefined_value set

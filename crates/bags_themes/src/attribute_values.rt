@@ -5,8 +5,7 @@ ghost use Rattle.indexmap.specs.IndexMap.{hasher_of};
 ghost use Rattle.reference_resolver.specs.overlay_map.ContentKeys.{keys_of};
 ghost use Rattle.bags_themes.specs.Theme.{value_of, is_undefined, AppliesRows, attributes_of};
 
-use crate::bag_row::BagRow;
-use crate::theme_value::ThemeValue;
+use bag_rows::{BagRow, ThemeValue};
 use indexmap::IndexMap;
 use reference_resolver::{ContentKeys, Contents, ResId};
 use std::alloc::{AllocError, Global};

@@ -10,11 +10,10 @@ ghost use Rattle.bags_themes.specs.declared.bag_fault.BagFault.TheVariants.{OutO
 
 use crate::bag_fault::BagFault;
 use crate::bag_ids::Chain;
-use crate::bag_row::BagRow;
-use crate::bag_rows::BagRows;
 use crate::found_bag::FoundBag;
-use crate::merging::merge;
-use crate::parents::{FoundBags, with_parents};
+use crate::merged_rows::BagRows;
+use crate::parents::with_parents;
+use bag_rows::{BagRow, merge};
 use reference_resolver::{Device, ResId, Stack};
 use std::alloc::{AllocError, Global};
 
@@ -40,7 +39,7 @@ pub fn bag(
 {
     let bag = FoundBag::select(stack, id, device)?;
     let chain = with_parents(alloc, stack, bag, device, MOST_PARENTS)?;
-    let rows = merged(alloc, chain)?;
+    let rows = merged(alloc, chain.as_slice())?;
     Ok(BagRows { rows })
 }
 
@@ -60,13 +59,15 @@ pub fn chain<'s, 'a>(stack: &'s Stack<'a>, id: ResId, device: &'s Device) -> Cha
 }
 
 /// The rows of a bag and its parents, from the topmost parent down.
-pub(crate) fn merged(alloc: Global, chain: FoundBags<'_>) -> Result<Vec<BagRow>, AllocError>
-    ensures { IfOk result (λ rows. rows.items ≡ merged (found_bags_of chain.entry.items)) }
+pub(crate) fn merged(alloc: Global, chain: &[FoundBag<'_>]) -> Result<Vec<BagRow>, AllocError>
+    ensures { IfOk result (λ rows. rows.items ≡ merged (found_bags_of chain.now)) }
 {
-    let mut left = chain;
     let mut rows = Vec::new(alloc);
-    'bags: while let Some(bag) = left.pop() {
-        rows = merge(alloc, &rows, &bag)?;
+    let mut left = chain.len();
+    'bags: while left > 0 {
+        left -= 1;
+        let bag = chain[left];
+        rows = merge(alloc, &rows, bag.layer, bag.rows)?;
     }
     Ok(rows)
 }

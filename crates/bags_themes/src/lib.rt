@@ -23,25 +23,22 @@
 mod attribute_values;
 mod bag_fault;
 mod bag_ids;
-mod bag_row;
-mod bag_rows;
 mod bags;
 mod content_course;
 mod course;
 mod found_bag;
-mod merging;
+mod merged_rows;
 mod parents;
 mod slot;
 mod style_course;
 mod theme;
-mod theme_value;
 
 pub use bag_fault::BagFault;
 pub use bag_ids::Chain;
-pub use bag_row::BagRow;
-pub use bag_rows::BagRows;
+pub use bag_rows::BagRow;
 pub use bags::{bag, chain};
 pub use course::{Course, CourseStep, attribute_under};
+pub use merged_rows::BagRows;
 pub use reference_resolver::{
     Cand, Cell, Coord, Decision, Device, DeviceFault, End, IdMap, MOST_LAYERS, MapFault, MapRows,
     Next, Package, PackageRows, Pool, PoolFault, REFERENCES_FOLLOWED, Record, ResId, Row, Stack,

@@ -13,7 +13,7 @@ use smallvec::SmallVec;
 use std::alloc::Global;
 
 /// Bags that were found, one above the other. Few chains have more than eight; these take no memory.
-pub(crate) type FoundBags<'a> = SmallVec<FoundBag<'a>, 8>;
+type FoundBags<'a> = SmallVec<FoundBag<'a>, 8>;
 
 /// A bag, its parent, and so on to the topmost one; there may be so many parents.
 pub(crate) fn with_parents<'a>(

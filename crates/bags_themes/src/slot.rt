@@ -4,7 +4,7 @@ ghost use Rattle.std.specs.Prelude.{◌≡◌};
 ghost use Rattle.std.specs.Option.{option_copied};
 ghost use Rattle.bags_themes.specs.Attribute.{step_of};
 
-use crate::theme_value::ThemeValue;
+use bag_rows::ThemeValue;
 use reference_resolver::{End, ResId, is_reference, kind};
 
 /// What an attribute reaches in a theme.

@@ -10,7 +10,6 @@ use crate::bag_fault::BagFault;
 use crate::bags::MOST_BAGS;
 use crate::course::{Course, CourseStep};
 use crate::found_bag::FoundBag;
-use crate::parents::FoundBags;
 use crate::slot::Slot;
 use crate::theme::{REFERENCES_AFTER_SLOT, Theme};
 use reference_resolver::{Cand, End, ResId};
@@ -22,7 +21,7 @@ use std::rc::Rc;
 pub struct StyleCourse<'a, 's> {
     pub(crate) style: ResId,
     /// The bags of its chain so far.
-    pub(crate) found: FoundBags<'a>,
+    pub(crate) found: Vec<FoundBag<'a>>,
     /// How many more may be found.
     pub(crate) left: u8,
     /// What the styles before it have set.
@@ -60,7 +59,7 @@ impl<'a, 's> StyleCourse<'a, 's> {
         }
         let found = self.found_and(alloc, bag)?;
         if bag.parent.0 == 0 {
-            return self.after_chain(alloc, found);
+            return self.after_chain(alloc, &found);
         }
         let course = StyleCourse {
             style: self.style,
@@ -82,15 +81,14 @@ impl<'a, 's> StyleCourse<'a, 's> {
         if self.found.is_empty() {
             return Ok(CourseStep::EndsAt(style_end(self.style, fault)));
         }
-        let found = FoundBags::from_slice(alloc, self.found.as_slice())?;
-        self.after_chain(alloc, found)
+        self.after_chain(alloc, &self.found)
     }
 
     // The bags so far and one more.
-    fn found_and(&self, alloc: Global, bag: FoundBag<'a>) -> Result<FoundBags<'a>, AllocError>
+    fn found_and(&self, alloc: Global, bag: FoundBag<'a>) -> Result<Vec<FoundBag<'a>>, AllocError>
         ensures { IfOk result (λ found. found.items ≡ self.now.found.items ++ bag.entry ∷ []) }
     {
-        let mut found = FoundBags::from_slice(alloc, self.found.as_slice())?;
+        let mut found = Vec::from_slice(alloc, &self.found)?;
         found.push(bag)?;
         Ok(found)
     }
@@ -99,11 +97,11 @@ impl<'a, 's> StyleCourse<'a, 's> {
     fn after_chain(
         &self,
         alloc: Global,
-        chain: FoundBags<'a>,
+        chain: &[FoundBag<'a>],
     ) -> Result<CourseStep<'a, 's>, AllocError>
         ensures { IfOk result (IsWay
             (λ stack. styles_trace stack self.now.attr.0
-            (values_after true (merged (found_bags_of chain.entry.items)) (value_of self.now.theme.value))
+            (values_after true (merged (found_bags_of chain.now)) (value_of self.now.theme.value))
             self.now.styles.now) (look_ups_of_styles self.now.styles.now)) }
     {
         let theme = self.theme.as_ref().after_chain(chain)?;
@@ -126,7 +124,7 @@ pub(crate) fn next_style<'a, 's>(
     };
     let course = StyleCourse {
         style: *style,
-        found: FoundBags::new(alloc),
+        found: Vec::new(alloc),
         left: MOST_BAGS,
         theme: Rc::new(alloc, theme)?,
         styles,

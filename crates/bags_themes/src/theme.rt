@@ -12,10 +12,10 @@ ghost use Rattle.bags_themes.specs.declared.bag_fault.BagFault.TheVariants.{OutO
 
 use crate::attribute_values::{AttributeValues, with_rows};
 use crate::bag_fault::BagFault;
-use crate::bag_row::BagRow;
 use crate::bags::{bag, merged};
-use crate::parents::FoundBags;
+use crate::found_bag::FoundBag;
 use crate::slot::{AttributeStep, Slot};
+use bag_rows::BagRow;
 use indexmap::IndexMap;
 use reference_resolver::{
     Contents, Device, End, REFERENCES_FOLLOWED, ResId, Stack, resolve_within,
@@ -94,8 +94,8 @@ impl Theme {
     }
 
     /// The theme after the bags of a style's chain, merged, were applied with force.
-    pub(crate) fn after_chain(&self, chain: FoundBags<'_>) -> Result<Theme, AllocError>
-        ensures { IfOk result (AppliesRows true (merged (found_bags_of chain.entry.items)) self.now) }
+    pub(crate) fn after_chain(&self, chain: &[FoundBag<'_>]) -> Result<Theme, AllocError>
+        ensures { IfOk result (AppliesRows true (merged (found_bags_of chain.now)) self.now) }
     {
         let rows = merged(self.alloc, chain)?;
         let values = with_rows(self.alloc, &self.values, &rows, true)?;

@@ -8,7 +8,7 @@ use Rattle.cert_checker.specs.reference_resolver.declared.step.Step.{Step}
 use Rattle.cert_checker.specs.reference_resolver.Selection.{step_of}
 use Rattle.cert_checker.specs.reference_resolver.Ends.{references_followed}
 use Rattle.cert_checker.specs.reference_resolver.Trace.{Trace, scan_look_up}
-use Rattle.cert_checker.specs.bags_themes.declared.bag_row.BagRow.{BagRow}
+use Rattle.cert_checker.specs.bags_themes.bag_rows.declared.bag_row.BagRow.{BagRow}
 use Rattle.cert_checker.specs.bags_themes.declared.bag_fault.BagFault.{BagFault}
 use Rattle.cert_checker.specs.bags_themes.declared.slot.Slot.{Slot}
 use Rattle.cert_checker.specs.bags_themes.declared.slot.Slot.TheVariants.{Refers, Ends}

@@ -16,7 +16,7 @@ use Rattle.std.specs.declared.alloc.Global.{Global}
 use Rattle.std.specs.declared.cmp.Ordering.{Ordering}
 use Rattle.std.specs.declared.cmp.Ordering.TheVariants.{Less, Equal, Greater}
 use Rattle.command_base.specs.answer_text.type_chunks.Row.{RowOf, row_of}
-use Rattle.command_base.specs.answer_text.type_chunks.declared.row.Row.{Row}
+use Rattle.command_base.specs.answer_text.type_chunks.type_entries.declared.row.Row.{Row}
 use Rattle.command_base.specs.FirstRows.{rising, first_row, first_rows}
 use Rattle.command_base.specs.FirstRowsSeen.{AreFirstOf, AreIdsOf, row_at, row_for}
 

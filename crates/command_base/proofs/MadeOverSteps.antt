@@ -10,7 +10,7 @@ use Rattle.command_base.specs.MapText.{lines_with, map_text}
 use Rattle.command_base.specs.StackBytes.{table_of_layer}
 use Rattle.command_base.specs.declared.fault.ToolFault.{ToolFault}
 use Rattle.command_base.specs.declared.side.Side.{Side}
-use Rattle.command_base.specs.resource_table.Table.{TableOf}
+use Rattle.command_base.specs.overlay_map.Table.{TableOf}
 
 abbrev made_with : List ℕ → Result TableOf ToolFault → Result TableOf ToolFault → Result MadeOf ToolFault
 made_with before target overlay =

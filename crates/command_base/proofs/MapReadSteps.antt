@@ -9,7 +9,7 @@ use Rattle.serde_json.specs.Data.{array}
 use Rattle.json_input.specs.Each.{each, list_items}
 use Rattle.json_input.proofs.EachSteps.{each-ok}
 use Rattle.command_base.specs.answer_text.res_value.ResId.{package_of}
-use Rattle.command_base.specs.answer_text.resource_table.Table.{TableOf, table_in}
+use Rattle.command_base.specs.answer_text.overlay_map.Table.{TableOf, table_in}
 use Rattle.command_base.specs.overlay_map.IdMap.{IdPair, MapOf, check_target, checked_pair, checked_pairs, map_in, pair_item, pairs_in, pairs_of, targets_of}
 use Rattle.command_base.specs.ToolFault.{fault_of_layer_table}
 use Rattle.command_base.specs.MapErr.{map_err}

@@ -8,8 +8,8 @@ use Rattle.std.proofs.lemmas.Simd.{map-map}
 use Rattle.std.proofs.lemmas.Slice.Zip.{get_or-zip, length-zip}
 use Rattle.command_base.specs.overlay_map.IdMap.{IdPair, MapOf, pairs_of}
 use Rattle.command_base.specs.answer_text.res_value.declared.res_id.ResId.{ResId}
-use Rattle.command_base.specs.answer_text.resource_table.Names.{key_name_in, type_name_in}
-use Rattle.command_base.specs.answer_text.resource_table.Table.{TableOf, rows_of}
+use Rattle.command_base.specs.answer_text.overlay_map.Names.{key_name_in, type_name_in}
+use Rattle.command_base.specs.answer_text.overlay_map.Table.{TableOf, rows_of}
 use Rattle.command_base.specs.answer_text.type_chunks.Row.{RowOf}
 use Rattle.command_base.specs.names.Names.{NameOf, found_in, found_in_tables, name_of}
 use Rattle.command_base.specs.names.declared.name.Name.{Name}

@@ -9,7 +9,7 @@ use Rattle.std.proofs.lemmas.Bool.{eqb-true}
 use Rattle.std.proofs.lemmas.List.{map-id}
 use Rattle.std.proofs.lemmas.List.Elements.{All-cons, All-nil}
 use Rattle.command_base.specs.answer_text.res_value.ResId.{package_of}
-use Rattle.command_base.specs.answer_text.resource_table.Table.{TableOf, rows_of}
+use Rattle.command_base.specs.answer_text.overlay_map.Table.{TableOf, rows_of}
 use Rattle.command_base.specs.answer_text.type_chunks.Row.{RowOf}
 use Rattle.command_base.specs.FirstRows.{first_row, first_rows, rising}
 use Rattle.command_base.specs.MadeMap.{made_map, own_of, package_of_row, pair_of, pairs_in}

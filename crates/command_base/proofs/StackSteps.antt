@@ -6,7 +6,7 @@ use Rattle.command_base.specs.contract_words.Faults.{◌>>=◌}
 use Rattle.command_base.specs.contract_words.Sequences.{with_front}
 use Rattle.command_base.specs.overlay_map.IdMap.{MapOf}
 use Rattle.command_base.specs.overlay_map.Layer.{LayerOf}
-use Rattle.command_base.specs.resource_table.Table.{TableOf}
+use Rattle.command_base.specs.overlay_map.Table.{TableOf}
 use Rattle.command_base.specs.declared.fault.ToolFault.{ToolFault}
 use Rattle.command_base.specs.StackBytes.{LayerBytes, layer_in, layers_from, map_of_layer, table_of_layer}
 use Rattle.command_base.specs.StackBytesSeen.{layer_bytes, with_layer}

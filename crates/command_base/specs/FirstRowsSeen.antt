@@ -4,7 +4,7 @@ use Rattle.std.specs.BTreeMap.{BTreeMap, get, keys}
 use Rattle.std.specs.Option.{option_map}
 use Rattle.std.specs.Ordering.{nat_cmp}
 use Rattle.command_base.specs.answer_text.type_chunks.Row.{RowOf, row_of}
-use Rattle.command_base.specs.answer_text.type_chunks.declared.row.Row.{Row}
+use Rattle.command_base.specs.answer_text.type_chunks.type_entries.declared.row.Row.{Row}
 use Rattle.command_base.specs.FirstRows.{rising, first_row}
 
 -- the row of an id

@@ -44,7 +44,6 @@ pub use Rattle.apk_member.specs as apk_member
 pub use Rattle.answer_text.specs as answer_text
 pub use Rattle.answer_text.specs.contract_words
 pub use Rattle.answer_text.specs.overlay_map
-pub use Rattle.answer_text.specs.resource_table
 pub use Rattle.cert_tree.specs as cert_tree
 pub use Rattle.cert_tree.specs.json_input
 pub use Rattle.names.specs as names

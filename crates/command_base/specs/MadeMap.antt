@@ -8,8 +8,8 @@ use Rattle.command_base.specs.answer_text.res_value.Kind.{reference_kind, attrib
 use Rattle.command_base.specs.answer_text.res_value.ResId.{package_of}
 use Rattle.command_base.specs.answer_text.res_value.declared.res_id.ResId.{ResId}
 use Rattle.command_base.specs.answer_text.res_value.declared.value.Value.{Value}
-use Rattle.command_base.specs.answer_text.resource_table.Names.{type_name_in, key_name_in}
-use Rattle.command_base.specs.answer_text.resource_table.Table.{TableOf, rows_of}
+use Rattle.command_base.specs.answer_text.overlay_map.Names.{type_name_in, key_name_in}
+use Rattle.command_base.specs.answer_text.overlay_map.Table.{TableOf, rows_of}
 use Rattle.command_base.specs.answer_text.type_chunks.Row.{RowOf}
 use Rattle.command_base.specs.names.Names.{found_in}
 use Rattle.command_base.specs.names.NameText.{name_text}

@@ -3,7 +3,7 @@ use Rattle.std.specs.Prelude.{◌≡◌, ℕ, ◌==◌, ◌&&◌, Bool, List, []
 use Rattle.std.specs.List.{flat_map}
 use Rattle.command_base.specs.answer_text.DumpText.{names_text}
 use Rattle.command_base.specs.answer_text.res_value.ResId.{id_text}
-use Rattle.command_base.specs.answer_text.resource_table.Table.{TableOf, table_in}
+use Rattle.command_base.specs.answer_text.overlay_map.Table.{TableOf, table_in}
 use Rattle.command_base.specs.answer_text.type_chunks.Row.{RowOf}
 use Rattle.command_base.specs.overlay_map.IdMap.{MapOf, map_in}
 use Rattle.command_base.specs.MadeMap.{AstrayOf, astray, made_map, unmapped}

@@ -5,8 +5,8 @@ use Rattle.std.specs.List.{filter_map, zip}
 use Rattle.std.specs.Option.{option_map}
 use Rattle.command_base.specs.overlay_map.IdMap.{MapOf}
 use Rattle.command_base.specs.answer_text.res_value.declared.res_id.ResId.{ResId}
-use Rattle.command_base.specs.answer_text.resource_table.Names.{key_name_in, type_name_in}
-use Rattle.command_base.specs.answer_text.resource_table.Table.{TableOf}
+use Rattle.command_base.specs.answer_text.overlay_map.Names.{key_name_in, type_name_in}
+use Rattle.command_base.specs.answer_text.overlay_map.Table.{TableOf}
 use Rattle.command_base.specs.answer_text.type_chunks.Row.{RowOf}
 use Rattle.command_base.specs.names.Names.{NameOf, found_in}
 use Rattle.command_base.specs.declared.pairs.NamedTarget.{NamedTarget}

@@ -2,7 +2,7 @@
 use Rattle.std.specs.Prelude.{ℕ, ◌+◌, List, [], ◌∷◌, length, nat_lt, Option, Some, None, Result, Ok}
 use Rattle.command_base.specs.contract_words.Faults.{◌>>=◌, refuse}
 use Rattle.command_base.specs.contract_words.Sequences.{with_front}
-use Rattle.command_base.specs.resource_table.Table.{TableOf, table_in}
+use Rattle.command_base.specs.overlay_map.Table.{TableOf, table_in}
 use Rattle.command_base.specs.overlay_map.IdMap.{MapOf, map_in}
 use Rattle.command_base.specs.overlay_map.Layer.{LayerOf, most_layers}
 use Rattle.command_base.specs.declared.layers_fault.LayersFault.TheVariants.{TooManyLayers}

@@ -2,8 +2,8 @@
 use Rattle.std.specs.Prelude.{ℕ, List, codes, Option, Some, None}
 use Rattle.cert_tree.specs.chunk_walk.declared.chunk.ChunkFault.TheVariants as of_chunk
 use Rattle.answer_text.specs.string_pool.declared.fault.PoolFault.TheVariants as of_pool
-use Rattle.answer_text.specs.type_chunks.declared.fault.TableFault.{TableFault}
-use Rattle.answer_text.specs.type_chunks.declared.fault.TableFault.TheVariants as of_table
+use Rattle.answer_text.specs.type_chunks.type_entries.declared.fault.TableFault.{TableFault}
+use Rattle.answer_text.specs.type_chunks.type_entries.declared.fault.TableFault.TheVariants as of_table
 use Rattle.answer_text.specs.NamedText.{named_number}
 
 -- the names of a table's fault from outside in, and its place, where it has one

@@ -6,8 +6,8 @@ use Rattle.cert_tree.specs.config_box.declared.box_fault.BoxFault.{BoxFault}
 use Rattle.cert_tree.specs.config_box.declared.box_fault.BoxFault.TheVariants as of_box
 use Rattle.cert_tree.specs.declared.cert_fault.CertFault.{CertFault}
 use Rattle.cert_tree.specs.declared.cert_fault.CertFault.TheVariants as of_certificate
-use Rattle.answer_text.specs.type_chunks.declared.fault.TableFault.{TableFault}
-use Rattle.answer_text.specs.type_chunks.declared.fault.TableFault.TheVariants as of_table
+use Rattle.answer_text.specs.type_chunks.type_entries.declared.fault.TableFault.{TableFault}
+use Rattle.answer_text.specs.type_chunks.type_entries.declared.fault.TableFault.TheVariants as of_table
 use Rattle.answer_text.specs.overlay_map.declared.map_fault.MapFault.{MapFault}
 use Rattle.answer_text.specs.overlay_map.declared.map_fault.MapFault.TheVariants as of_map
 use Rattle.answer_text.specs.overlay_map.declared.stack_fault.StackFault.{StackFault}

@@ -5,7 +5,7 @@ ghost use Rattle.std.specs.BTreeMap.{keys, IsOrdered};
 ghost use Rattle.std.specs.BTreeSet.{insert_key};
 ghost use Rattle.std.specs.Option.{option_map, option_or};
 ghost use Rattle.std.specs.Ordering.{nat_cmp};
-ghost use Rattle.command_base.specs.answer_text.resource_table.Table.{rows_of};
+ghost use Rattle.command_base.specs.answer_text.overlay_map.Table.{rows_of};
 ghost use Rattle.command_base.specs.answer_text.type_chunks.Row.{row_of};
 ghost use Rattle.command_base.specs.FirstRows.{first_row, first_rows};
 ghost use Rattle.command_base.specs.FirstRowsSeen.{AreFirstOf, AreIdsOf, row_at, row_for};

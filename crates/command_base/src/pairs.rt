@@ -3,7 +3,7 @@
 ghost use Rattle.std.specs.Prelude.{◌≡◌, ◌++◌, length, map, IfOk, OnOk};
 ghost use Rattle.std.specs.List.{flat_map};
 ghost use Rattle.command_base.specs.overlay_map.IdMap.{pairs_of};
-ghost use Rattle.command_base.specs.answer_text.resource_table.Table.{rows_of};
+ghost use Rattle.command_base.specs.answer_text.overlay_map.Table.{rows_of};
 ghost use Rattle.command_base.specs.answer_text.type_chunks.Row.{row_of};
 ghost use Rattle.command_base.specs.names.Names.{name_of};
 ghost use Rattle.command_base.specs.FirstRows.{first_rows};

@@ -4,7 +4,7 @@ use Rattle.std.proofs.lemmas.List.{drop_more, drop_all}
 use Rattle.std.proofs.lemmas.List.Sums.{fold-append}
 use Rattle.std.specs.BTreeSet.{insert_key}
 use Rattle.std.specs.Ordering.{nat_cmp}
-use Rattle.overlay_map.specs.resource_table.Table.{TableOf, rows_of}
+use Rattle.overlay_map.specs.Table.{TableOf, rows_of}
 use Rattle.overlay_map.specs.type_chunks.Row.{RowOf}
 use Rattle.names.specs.IdsOfType.{is_of_type, numbers_in, numbers_of_type, put_each}
 

@@ -15,7 +15,7 @@ use Rattle.std.specs.declared.alloc.Global.{Global}
 use Rattle.overlay_map.specs.BaseRow.{BaseRowOf, first_base_row}
 use Rattle.overlay_map.specs.Layer.{LayerOf, base_tables, is_base}
 use Rattle.overlay_map.specs.res_value.declared.res_id.ResId.{ResId}
-use Rattle.overlay_map.specs.resource_table.Table.{TableOf, rows_of}
+use Rattle.overlay_map.specs.Table.{TableOf, rows_of}
 use Rattle.overlay_map.specs.type_chunks.Row.{RowOf, with_id}
 use Rattle.names.specs.IdWord.{AreWords, word_among}
 use Rattle.names.specs.IdsOfType.{id_of_number, ids_of_type, numbers_in, numbers_of_type, put_each}

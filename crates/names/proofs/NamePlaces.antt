@@ -1,8 +1,8 @@
 -- The names of rows that stand at the same places.
 use Rattle.std.proofs.Common.{◌≡◌, ℕ, ◌+◌, ◌-◌, Result, slice_get, nat_lt, refl, sym, ap, ◌∙◌}
 use Rattle.contract_words.specs.Faults.{◌>>=◌, refuse}
-use Rattle.overlay_map.specs.resource_table.Names.{type_name_in, key_name_in, found_package}
-use Rattle.overlay_map.specs.resource_table.Table.{TableOf}
+use Rattle.overlay_map.specs.Names.{type_name_in, key_name_in, found_package}
+use Rattle.overlay_map.specs.Table.{TableOf}
 use Rattle.overlay_map.specs.type_chunks.Row.{RowOf}
 use Rattle.string_pool.specs.Text.{TextOf, text_in}
 use Rattle.string_pool.specs.declared.fault.StringFault.{StringFault}

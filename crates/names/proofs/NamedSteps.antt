@@ -18,7 +18,7 @@ use Rattle.std.specs.declared.borrow.CowStr.{CowStr}
 use Rattle.std.specs.declared.cmp.Ordering.TheVariants.{Less}
 use Rattle.overlay_map.specs.Layer.{LayerOf, base_tables}
 use Rattle.overlay_map.specs.res_value.declared.res_id.ResId.{ResId}
-use Rattle.overlay_map.specs.resource_table.Table.{TableOf}
+use Rattle.overlay_map.specs.Table.{TableOf}
 use Rattle.names.specs.IdsOfType.{id_of_number, ids_of_type, numbers_in, put_each}
 use Rattle.names.specs.Label.{FullNameOf, LabelOf, ByName, label_of, label_cmp, is_same}
 use Rattle.names.specs.Merged.{AreLabels}

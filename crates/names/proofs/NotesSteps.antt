@@ -13,8 +13,8 @@ use Rattle.std.specs.Ordering.{is_eq, nat_cmp}
 use Rattle.std.specs.declared.cmp.Ordering.{Ordering}
 use Rattle.overlay_map.specs.res_value.declared.res_id.ResId.{ResId}
 use Rattle.overlay_map.specs.res_value.ResId.{package_of}
-use Rattle.overlay_map.specs.resource_table.Names.{type_name_in, key_name_in}
-use Rattle.overlay_map.specs.resource_table.Table.{TableOf}
+use Rattle.overlay_map.specs.Names.{type_name_in, key_name_in}
+use Rattle.overlay_map.specs.Table.{TableOf}
 use Rattle.overlay_map.specs.type_chunks.Row.{RowOf}
 use Rattle.overlay_map.specs.string_pool.Text.{TextOf}
 use Rattle.overlay_map.specs.string_pool.declared.fault.StringFault.{StringFault}

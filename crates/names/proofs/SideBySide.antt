@@ -14,8 +14,8 @@ use Rattle.names.specs.NameText.{name_text}
 use Rattle.overlay_map.specs.Layer.{LayerOf, base_tables}
 use Rattle.overlay_map.specs.res_value.ResId.{package_of}
 use Rattle.overlay_map.specs.res_value.declared.res_id.ResId.{ResId}
-use Rattle.overlay_map.specs.resource_table.Names.{type_name_in, key_name_in}
-use Rattle.overlay_map.specs.resource_table.Table.{rows_of}
+use Rattle.overlay_map.specs.Names.{type_name_in, key_name_in}
+use Rattle.overlay_map.specs.Table.{rows_of}
 use Rattle.overlay_map.specs.type_chunks.Row.{RowOf}
 use Rattle.names.specs.declared.pair.Sides.{Sides}
 use Rattle.names.specs.Label.{LabelOf, ById, label_cmp, is_same}

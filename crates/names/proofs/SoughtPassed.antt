@@ -1,7 +1,7 @@
 -- Rows that were noted.
 use Rattle.std.proofs.Common.{◌≡◌, ℕ, Bool, true, ◌&&◌, Result, List, [], ◌∷◌, ◌⊎◌, map, refl, sym, ap, ◌∙◌, ⊎_elim}
-use Rattle.overlay_map.specs.resource_table.Names.{type_name_in, key_name_in}
-use Rattle.overlay_map.specs.resource_table.Table.{TableOf}
+use Rattle.overlay_map.specs.Names.{type_name_in, key_name_in}
+use Rattle.overlay_map.specs.Table.{TableOf}
 use Rattle.overlay_map.specs.res_value.ResId.{package_of}
 use Rattle.overlay_map.specs.type_chunks.Row.{RowOf}
 use Rattle.string_pool.specs.Text.{TextOf}

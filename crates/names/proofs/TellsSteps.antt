@@ -11,7 +11,7 @@ use Rattle.std.specs.List.{flat_map}
 use Rattle.std.specs.Map.{lookup}
 use Rattle.std.specs.Option.{option_map, unwrap_or}
 use Rattle.std.specs.Vec.Iter.{into_iter_items, into_iter_steps}
-use Rattle.overlay_map.specs.resource_table.Table.{TableOf}
+use Rattle.overlay_map.specs.Table.{TableOf}
 use Rattle.overlay_map.specs.Layer.{LayerOf, base_tables}
 use Rattle.names.specs.declared.found.Found.{Found}
 use Rattle.names.specs.declared.found.Found.TheVariants.{Nothing}

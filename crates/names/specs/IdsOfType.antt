@@ -3,8 +3,8 @@ use Rattle.std.specs.Prelude.{ℕ, Bool, true, List, [], map, filter, Option, So
 use Rattle.std.specs.List.{flat_map, fold}
 use Rattle.std.specs.BTreeSet.{insert_key}
 use Rattle.std.specs.Ordering.{nat_cmp}
-use Rattle.overlay_map.specs.resource_table.Names.{type_name_in}
-use Rattle.overlay_map.specs.resource_table.Table.{TableOf, rows_of}
+use Rattle.overlay_map.specs.Names.{type_name_in}
+use Rattle.overlay_map.specs.Table.{TableOf, rows_of}
 use Rattle.overlay_map.specs.res_value.declared.res_id.ResId.{ResId}
 use Rattle.overlay_map.specs.type_chunks.Row.{RowOf}
 use Rattle.names.specs.Names.{is_name}

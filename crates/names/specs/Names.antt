@@ -3,8 +3,8 @@ use Rattle.std.specs.Prelude.{ℕ, Bool, false, ◌&&◌, List, [], ◌∷◌, f
 use Rattle.std.specs.List.{flat_map}
 use Rattle.std.specs.Option.{option_map, option_map_or, option_or}
 use Rattle.std.specs.Str.{bytes_eq}
-use Rattle.overlay_map.specs.resource_table.Names.{type_name_in, key_name_in}
-use Rattle.overlay_map.specs.resource_table.Table.{TableOf, rows_of}
+use Rattle.overlay_map.specs.Names.{type_name_in, key_name_in}
+use Rattle.overlay_map.specs.Table.{TableOf, rows_of}
 use Rattle.overlay_map.specs.res_value.ResId.{package_of}
 use Rattle.overlay_map.specs.res_value.declared.res_id.ResId.{ResId}
 use Rattle.overlay_map.specs.type_chunks.Row.{RowOf}

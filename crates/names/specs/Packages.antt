@@ -4,8 +4,8 @@ use Rattle.std.specs.Cow.{cow_str_bytes}
 use Rattle.std.specs.List.{flat_map, list_any}
 use Rattle.std.specs.Option.{option_map, option_map_or}
 use Rattle.std.specs.Str.{bytes_eq}
-use Rattle.overlay_map.specs.resource_table.Package.{PackageOf}
-use Rattle.overlay_map.specs.resource_table.Table.{TableOf}
+use Rattle.overlay_map.specs.Package.{PackageOf}
+use Rattle.overlay_map.specs.Table.{TableOf}
 use Rattle.names.specs.NameText.{name_text}
 use Rattle.names.specs.PackageWord.{PackageWordOf, Numbered, Called}
 use Rattle.names.specs.declared.packages.PackageName.{PackageName}

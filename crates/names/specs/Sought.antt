@@ -1,7 +1,7 @@
 -- Names that are looked for. Contracts within the crate alone speak of this.
 use Rattle.std.specs.Prelude.{◌≡◌, ℕ, ◌<◌, Bool, true, ◌⊎◌, List, [], ◌∷◌, map, filter, length, slice_index_or}
 use Rattle.std.specs.List.{Contains}
-use Rattle.overlay_map.specs.resource_table.Table.{TableOf, rows_of}
+use Rattle.overlay_map.specs.Table.{TableOf, rows_of}
 use Rattle.overlay_map.specs.type_chunks.Row.{RowOf}
 use Rattle.names.specs.declared.found.Found.TheVariants.{Nothing}
 use Rattle.names.specs.declared.packages.Packages.{Packages}

@@ -4,7 +4,7 @@ ghost use Rattle.std.specs.Prelude.{◌≡◌, map, IfOk, OnOk};
 ghost use Rattle.std.specs.List.{flat_map};
 ghost use Rattle.std.specs.Option.{option_map};
 ghost use Rattle.overlay_map.specs.type_chunks.Row.{row_of};
-ghost use Rattle.overlay_map.specs.resource_table.Table.{rows_of};
+ghost use Rattle.overlay_map.specs.Table.{rows_of};
 ghost use Rattle.names.specs.IdsOfType.{is_of_type, numbers_of_type, put_each, id_of_number, ids_of_type};
 
 use crate::sought::is_text;

@@ -3,7 +3,7 @@
 ghost use Rattle.std.specs.Prelude.{◌≡◌, ◌++◌, map, Ok, IfOk, OnOk};
 ghost use Rattle.std.specs.List.{list_any};
 ghost use Rattle.std.specs.Option.{option_map};
-ghost use Rattle.overlay_map.specs.resource_table.Package.{packages_of};
+ghost use Rattle.overlay_map.specs.Package.{packages_of};
 ghost use Rattle.names.specs.NamedIds as of_layers;
 ghost use Rattle.names.specs.PackageWord.{package_word_of};
 ghost use Rattle.names.specs.Packages.{package_name_of, name_of_package, packages_in, is_called, is_asked_in};

@@ -3,7 +3,7 @@
 ghost use Rattle.std.specs.Prelude.{◌≡◌, map, IfOk, OnOk};
 ghost use Rattle.std.specs.Option.{option_map};
 ghost use Rattle.overlay_map.specs.type_chunks.Row.{row_of};
-ghost use Rattle.overlay_map.specs.resource_table.Table.{rows_of};
+ghost use Rattle.overlay_map.specs.Table.{rows_of};
 ghost use Rattle.names.specs.Found.{found_among};
 ghost use Rattle.names.specs.FoundSoFar.{first_of};
 ghost use Rattle.names.specs.Names.{name_of, wanted_of, in_any_package, found_in_tables, ids_with};

@@ -3,7 +3,7 @@
 ghost use Rattle.std.specs.Prelude.{◌≡◌, [], ◌∷◌, None, map, IfOk, OnOk};
 ghost use Rattle.std.specs.List.{flat_map};
 ghost use Rattle.std.specs.Option.{option_map};
-ghost use Rattle.overlay_map.specs.resource_table.Table.{rows_of};
+ghost use Rattle.overlay_map.specs.Table.{rows_of};
 ghost use Rattle.overlay_map.specs.type_chunks.Row.{row_of};
 ghost use Rattle.names.specs.IdsOfType.{numbers_in, numbers_of_type};
 ghost use Rattle.names.specs.Label.{label_of};

@@ -1,7 +1,7 @@
 -- How the tables of base layers are listed.
 use Rattle.std.proofs.Common.{◌≡◌, Bool, true, false, cond, List, [], ◌∷◌, ◌++◌, map, filter, sym, ap, ◌∙◌, append_assoc}
 use Rattle.std.proofs.lemmas.List.{append-nil, map-append}
-use Rattle.resource_table.specs.Table.{TableOf}
+use Rattle.overlay_map.specs.Table.{TableOf}
 use Rattle.overlay_map.specs.Layer.{LayerOf, is_base, base_tables}
 
 -- with those of the layers that are left, all are listed

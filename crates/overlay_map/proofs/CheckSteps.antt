@@ -7,7 +7,7 @@ use Rattle.std.specs.Map.{lookup}
 use Rattle.std.specs.Option.{option_map}
 use Rattle.contract_words.specs.Sequences.{with_front, joined_each, with_before}
 use Rattle.contract_words.proofs.SequenceSteps.{with_front_nil, ReadsKnowing, ReadsKnowing-none, ReadsKnowing-next, ReadsKnowing-stops, ReadsKnowing-end}
-use Rattle.resource_table.specs.res_value.declared.res_id.ResId.{ResId}
+use Rattle.type_chunks.specs.res_value.declared.res_id.ResId.{ResId}
 use Rattle.overlay_map.specs.declared.map_fault.MapFault.{MapFault}
 use Rattle.overlay_map.specs.IdMap.{IdPair, pairs_of, look_of, check_target, checked_pair}
 

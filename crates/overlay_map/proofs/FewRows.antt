@@ -3,8 +3,8 @@ use Rattle.std.proofs.Common.{◌≡◌, ◌==◌, ℕ, ◌+◌, ◌*◌, ◌^�
 use Rattle.std.proofs.lemmas.List.{length-map}
 use Rattle.std.proofs.lemmas.List.Sums.{length-filter, count_by-le-length}
 use Rattle.std.proofs.lemmas.List.Elements.{All-head, All-tail, All-push}
-use Rattle.resource_table.specs.type_chunks.Row.{RowOf}
-use Rattle.resource_table.specs.Table.{rows_of}
+use Rattle.type_chunks.specs.Row.{RowOf}
+use Rattle.overlay_map.specs.Table.{rows_of}
 use Rattle.overlay_map.specs.Layer.{LayerOf, most_layers, HasFewRows, own_id, rows_with, rows_for}
 use Rattle.overlay_map.specs.Candidates.{candidates_at, candidates_from}
 

@@ -1,3 +1,12 @@
+pub mod ChildrenSteps
+pub mod ZeroSteps
+pub mod RowsSteps
+pub mod PackagesSteps
+pub mod NameSteps
+pub mod HeadSteps
+pub mod LinkSteps
+pub mod StandSteps
+pub mod PlaceSteps
 pub mod PairSteps
 pub mod MapSteps
 pub mod CheckSteps

@@ -2,7 +2,7 @@
 use Rattle.std.proofs.Common.{◌≡◌, List, [], ◌∷◌, map, length, get_or, Some, None, refl, sym, arith}
 use Rattle.serde_json.specs.View.{view}
 use Rattle.serde_json.specs.declared.value.Value.{Value}
-use Rattle.overlay_map.specs.resource_table.res_value.declared.res_id.ResId.{ResId}
+use Rattle.type_chunks.specs.res_value.declared.res_id.ResId.{ResId}
 use Rattle.overlay_map.specs.IdMap.{id_in, pair_of_items}
 
 -- a list of another length than two is no pair

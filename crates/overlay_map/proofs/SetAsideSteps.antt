@@ -3,11 +3,11 @@ use Rattle.std.proofs.Common.{◌≡◌, ℕ, ◌+◌, ◌<◌, ◌≤◌, List,
 use Rattle.std.specs.Prelude.{cond}
 use Rattle.std.proofs.lemmas.List.{drop_more, drop_all}
 use Rattle.std.proofs.lemmas.List.Sums.{sum_by-append}
-use Rattle.resource_table.specs.config_record.Record.{is_set_aside}
-use Rattle.resource_table.specs.type_chunks.declared.checked_type.CheckedType.{CheckedType}
-use Rattle.resource_table.specs.type_chunks.Row.{set_aside_count}
-use Rattle.resource_table.specs.type_chunks.TypeRows.{rows_of_type, rows_of_types}
-use Rattle.resource_table.proofs.type_chunks.TypeRowsSteps.{rows_of_types-next, rows_of_types-none}
+use Rattle.type_chunks.specs.config_record.Record.{is_set_aside}
+use Rattle.type_chunks.specs.type_entries.declared.checked_type.CheckedType.{CheckedType}
+use Rattle.type_chunks.specs.Row.{set_aside_count}
+use Rattle.type_chunks.specs.TypeRows.{rows_of_type, rows_of_types}
+use Rattle.type_chunks.proofs.type_entries.TypeRowsSteps.{rows_of_types-next, rows_of_types-none}
 
 -- those of a type, and of the types behind it
 pub set_aside-next : (types : List CheckedType) (index : ℕ) (d : CheckedType) → index < length types

@@ -1,8 +1,8 @@
 -- The row that gives an id its name.
 use Rattle.std.specs.Prelude.{ℕ, List, [], ◌∷◌, slice_get, Option, None, if◌then◌else◌}
 use Rattle.std.specs.Option.{option_map, option_or}
-use Rattle.resource_table.specs.type_chunks.Row.{RowOf, row_of, with_id}
-use Rattle.resource_table.specs.Table.{TableOf, rows_of}
+use Rattle.type_chunks.specs.Row.{RowOf, row_of, with_id}
+use Rattle.overlay_map.specs.Table.{TableOf, rows_of}
 use Rattle.overlay_map.specs.declared.base_row.BaseRow.{BaseRow}
 use Rattle.overlay_map.specs.Layer.{LayerOf, is_base}
 

@@ -1,6 +1,6 @@
 -- The candidates of an id: the rows that may stand for it, layer by layer.
 use Rattle.std.specs.Prelude.{ℕ, ◌+◌, Bool, List, [], ◌∷◌, ◌++◌, map, is_some}
-use Rattle.resource_table.specs.type_chunks.Row.{RowOf, row_of}
+use Rattle.type_chunks.specs.Row.{RowOf, row_of}
 use Rattle.overlay_map.specs.declared.candidate.Cand.{Cand}
 use Rattle.overlay_map.specs.Layer.{LayerOf, rows_for}
 

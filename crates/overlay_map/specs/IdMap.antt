@@ -7,8 +7,8 @@ use Rattle.serde_json.specs.Data.{Data}
 use Rattle.json_input.specs.Each.{list_of, each}
 use Rattle.json_input.specs.Json.{value_of}
 use Rattle.json_input.specs.Shape.{text_of}
-use Rattle.resource_table.specs.res_value.declared.res_id.ResId.{ResId}
-use Rattle.resource_table.specs.res_value.ResId.{id_of, package_of}
+use Rattle.type_chunks.specs.res_value.declared.res_id.ResId.{ResId}
+use Rattle.type_chunks.specs.res_value.ResId.{id_of, package_of}
 use Rattle.overlay_map.specs.declared.map_fault.MapFault.{MapFault}
 use Rattle.overlay_map.specs.declared.map_fault.MapFault.TheVariants.{Syntax, Shape, Repeated, OtherPackage}
 

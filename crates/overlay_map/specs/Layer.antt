@@ -1,7 +1,7 @@
 -- Layers of a stack, the later over the earlier.
 use Rattle.std.specs.Prelude.{ℕ, ◌<◌, ◌^◌, Bool, List, [], ◌∷◌, filter, length, map, Option, Some, None, is_none}
-use Rattle.resource_table.specs.type_chunks.Row.{RowOf, with_id}
-use Rattle.resource_table.specs.Table.{TableOf, rows_of}
+use Rattle.type_chunks.specs.Row.{RowOf, with_id}
+use Rattle.overlay_map.specs.Table.{TableOf, rows_of}
 use Rattle.overlay_map.specs.IdMap.{MapOf, look_of}
 
 -- A layer, by its content, not its address: a table, as a base or as an overlay with its id map.

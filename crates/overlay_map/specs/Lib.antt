@@ -1,3 +1,13 @@
+pub mod Layout
+pub mod TablePools
+pub mod Package
+pub mod Table
+pub mod Names
+pub mod KnownChildren
+pub mod Units
+pub mod Heads
+pub mod Links
+pub mod Places
 pub mod IdMap
 pub mod Layer
 pub mod Candidates
@@ -5,8 +15,7 @@ pub mod BaseRow
 pub mod Pushing
 pub mod SetAside
 pub mod ContentKeys
-pub use Rattle.resource_table.specs.config_record
-pub use Rattle.resource_table.specs.res_value
-pub use Rattle.resource_table.specs as resource_table
-pub use Rattle.resource_table.specs.string_pool
-pub use Rattle.resource_table.specs.type_chunks
+pub use Rattle.type_chunks.specs as type_chunks
+pub use Rattle.type_chunks.specs.config_record
+pub use Rattle.type_chunks.specs.res_value
+pub use Rattle.type_chunks.specs.string_pool

@@ -1,6 +1,6 @@
 -- Pushing a layer onto a stack.
 use Rattle.std.specs.Prelude.{◌≡◌, ℕ, ◌<◌, ◌^◌, List, [], ◌∷◌, ◌++◌, length, Some, None, Result, Ok, Err}
-use Rattle.resource_table.specs.Table.{TableOf, rows_of}
+use Rattle.overlay_map.specs.Table.{TableOf, rows_of}
 use Rattle.overlay_map.specs.IdMap.{MapOf}
 use Rattle.overlay_map.specs.Layer.{LayerOf, most_layers}
 use Rattle.overlay_map.specs.declared.stack_fault.StackFault.{StackFault}

@@ -1,7 +1,7 @@
 -- Rows that are set aside: they have a script or a variant, and by language and region match no device.
 use Rattle.std.specs.Prelude.{ℕ, List, map, sum}
-use Rattle.resource_table.specs.type_chunks.Row.{set_aside_count}
-use Rattle.resource_table.specs.Table.{rows_of}
+use Rattle.type_chunks.specs.Row.{set_aside_count}
+use Rattle.overlay_map.specs.Table.{rows_of}
 use Rattle.overlay_map.specs.Layer.{LayerOf}
 
 -- how many rows of a layer's table are

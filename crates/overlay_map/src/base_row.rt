@@ -1,6 +1,7 @@
 //! The row that gives an id its name.
 
-use resource_table::{Row, Table};
+use crate::table::Table;
+use type_chunks::Row;
 
 /// A row of a base layer, with the table that it is of.
 #[derive(Clone, Copy)]

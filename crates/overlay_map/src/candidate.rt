@@ -1,6 +1,6 @@
 //! Candidates.
 
-use resource_table::Row;
+use type_chunks::Row;
 
 /// A row that may stand for an id, and the layer that it is of.
 #[derive(Clone, Copy)]

@@ -6,10 +6,11 @@ ghost use Rattle.overlay_map.specs.Layer.{most_layers};
 ghost use Rattle.overlay_map.specs.Candidates.{candidates_from};
 
 use crate::candidate::Cand;
+use crate::indexed_rows::IndexedRows;
 use crate::layer::Layer;
-use resource_table::{IndexedRows, ResId};
 use std::marker::Model;
 use std::slice::Iter;
+use type_chunks::ResId;
 
 // The candidates of one layer that are left, in the order of the file.
 #[derive(Drop)]

@@ -11,7 +11,7 @@ use crate::content_keys::ContentKeys;
 use crate::contents::Contents;
 use crate::map_fault::MapFault;
 use indexmap::IndexMap;
-use resource_table::ResId;
+use type_chunks::ResId;
 
 /// The keys that the targets of these pairs make.
 pub(crate) fn keys_of_targets(list: &[(ResId, ResId)]) -> ContentKeys

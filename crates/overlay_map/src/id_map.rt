@@ -14,9 +14,9 @@ use crate::map_fault::MapFault;
 use crate::pairs::pairs_in;
 use indexmap::IndexMap;
 use json_input::read_value;
-use resource_table::ResId;
 use std::alloc::{AllocError, Global};
 use std::marker::Model;
+use type_chunks::ResId;
 
 /// Which id of an overlay stands for which id of the stack (AOSP: `IdmapEntries`). Contracts see it as
 /// its pairs, in the order of its text.

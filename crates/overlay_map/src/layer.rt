@@ -8,8 +8,10 @@ ghost use Rattle.overlay_map.specs.SetAside.{set_aside_in_layer};
 
 use crate::base_row::BaseRow;
 use crate::id_map::IdMap;
-use resource_table::{IndexedRows, IndexedTable, ResId};
+use crate::indexed_rows::IndexedRows;
+use crate::indexed_table::IndexedTable;
 use std::marker::Model;
+use type_chunks::ResId;
 
 /// A table in a stack, as a base or as an overlay.
 #[derive(Drop)]

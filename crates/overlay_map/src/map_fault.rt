@@ -5,10 +5,10 @@ ghost use Rattle.json_input.specs.Fault.{fault_of_text};
 ghost use Rattle.overlay_map.specs.declared.map_fault.MapFault.TheVariants.{Syntax, OutOfMemory};
 
 use json_input::JsonFault;
-use resource_table::ResId;
 use std::alloc::AllocError;
 use std::fmt::{self, Debug, Display, Formatter};
 use thiserror::Error;
+use type_chunks::ResId;
 
 /// Why no id map was read. A text is first read, then its shape is looked at; then the pairs are checked
 /// in their order, and the first fault is named.

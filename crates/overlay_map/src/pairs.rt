@@ -10,9 +10,9 @@ ghost use Rattle.overlay_map.specs.declared.map_fault.MapFault.TheVariants.{OutO
 
 use crate::map_fault::MapFault;
 use json_input::list_of;
-use resource_table::ResId;
 use serde_json::Value;
 use std::alloc::Global;
+use type_chunks::ResId;
 
 /// The pairs of a list, each a target and the overlay's id.
 #[tactic(auto, unfolding(crate::specs::IdMap::pairs_in))]

@@ -1,7 +1,7 @@
 //! Stacks.
 
 ghost use Rattle.std.specs.Prelude.{◌≡◌, ◌≤◌, ◌<◌, ◌^◌, [], ◌∷◌, ◌++◌, All, length, map, slice_get, vec_len, vec_capacity, nat_eq, option_and_then, OnOk, IfOk, IfErr};
-ghost use Rattle.resource_table.specs.Table.{rows_of};
+ghost use Rattle.overlay_map.specs.Table.{rows_of};
 ghost use Rattle.std.specs.Option.{option_map};
 ghost use Rattle.overlay_map.specs.Layer.{by_itself, most_layers, base_tables, HasFewRows};
 ghost use Rattle.overlay_map.specs.Pushing.{PushesLayer, IsIndexed, IsHandedBack, base_of, overlay_of};
@@ -12,11 +12,13 @@ ghost use Rattle.overlay_map.specs.BaseRow.{base_row_of, first_base_row};
 use crate::base_row::BaseRow;
 use crate::candidates::Cands;
 use crate::id_map::IdMap;
+use crate::indexed_table::IndexedTable;
 use crate::layer::Layer;
 use crate::stack_fault::StackFault;
-use resource_table::{IndexedTable, ResId, Table};
+use crate::table::Table;
 use std::alloc::{AllocError, Global};
 use std::marker::Model;
+use type_chunks::ResId;
 
 /// The most layers that a stack can have.
 pub const MOST_LAYERS: usize = 64;

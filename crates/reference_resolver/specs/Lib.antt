@@ -10,6 +10,5 @@ pub use Rattle.config_precedence.specs.config_match
 pub use Rattle.config_precedence.specs.config_record
 pub use Rattle.overlay_map.specs as overlay_map
 pub use Rattle.overlay_map.specs.res_value
-pub use Rattle.overlay_map.specs.resource_table
 pub use Rattle.overlay_map.specs.string_pool
 pub use Rattle.overlay_map.specs.type_chunks

@@ -13,3 +13,16 @@ pub mod LineSteps
 pub mod LinePartSteps
 pub mod GoalSteps
 pub mod WholeTreeLemmas
+pub mod Stopped
+pub mod Opening
+pub mod Asked
+pub mod PairSteps
+pub mod SameBytes
+pub mod Counts
+pub mod Kept
+pub mod Blocks
+pub mod Mapped
+pub mod Valued
+pub mod UsedRows
+pub mod PrintedUnused
+pub use Rattle.answer_text.proofs.InOrder

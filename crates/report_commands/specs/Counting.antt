@@ -5,7 +5,7 @@ use Rattle.command_base.specs.cert_tree.config_box.config_record.declared.coord.
 use Rattle.command_base.specs.cert_tree.config_box.config_record.Coord.{all_coords, place_of}
 use Rattle.report_commands.specs.NumberSaid.{number_said}
 use Rattle.command_base.specs.overlay_map.type_chunks.Row.{RowOf}
-use Rattle.command_base.specs.overlay_map.resource_table.Table.{rows_of}
+use Rattle.command_base.specs.overlay_map.Table.{rows_of}
 use Rattle.command_base.specs.overlay_map.Layer.{LayerOf}
 use Rattle.report_commands.specs.declared.qualifiers.Qualifiers.{Qualifiers}
 use Rattle.report_commands.specs.declared.qualifiers.Spread.{Spread}

@@ -5,7 +5,7 @@ use Rattle.std.specs.Option.{option_map}
 use Rattle.command_base.specs.cert_tree.config_box.config_record.locales.declared.locale_rule.LocaleRule.{LocaleRule}
 use Rattle.command_base.specs.overlay_map.string_pool.Pool.{PoolOf, empty_pool}
 use Rattle.command_base.specs.overlay_map.type_chunks.Row.{RowOf}
-use Rattle.command_base.specs.overlay_map.resource_table.Table.{TableOf, rows_of}
+use Rattle.command_base.specs.overlay_map.Table.{TableOf, rows_of}
 use Rattle.command_base.specs.overlay_map.Layer.{LayerOf}
 use Rattle.command_base.specs.StackBytes.{LayerBytes}
 use Rattle.report_commands.specs.Findings.{Note}

@@ -4,7 +4,7 @@ use Rattle.std.specs.List.{flat_map}
 use Rattle.command_base.specs.cert_tree.config_box.config_record.declared.coord.Coord.{Coord}
 use Rattle.report_commands.specs.NumberSaid.{number_said}
 use Rattle.command_base.specs.overlay_map.type_chunks.Row.{RowOf}
-use Rattle.command_base.specs.overlay_map.resource_table.Table.{rows_of}
+use Rattle.command_base.specs.overlay_map.Table.{rows_of}
 use Rattle.command_base.specs.overlay_map.Layer.{LayerOf}
 use Rattle.report_commands.specs.declared.qualifiers.Spread.{Spread}
 

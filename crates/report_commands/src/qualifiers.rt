@@ -4,7 +4,7 @@ ghost use Rattle.std.specs.Prelude.{◌≡◌};
 ghost use Rattle.std.specs.List.{flat_map};
 ghost use Rattle.command_base.specs.cert_tree.config_box.config_record.declared.coord.Coord as coord;
 ghost use Rattle.command_base.specs.overlay_map.type_chunks.Row.{row_of};
-ghost use Rattle.command_base.specs.overlay_map.resource_table.Table.{rows_of};
+ghost use Rattle.command_base.specs.overlay_map.Table.{rows_of};
 ghost use Rattle.report_commands.specs.LayerNotes.{rows_at};
 ghost use Rattle.report_commands.specs.Qualifiers.{rows_in_stack, numbers_at, spread_of};
 ghost use Rattle.report_commands.specs.Counting.{and_number, spread_in, with_number, counted, said_at, said_by};

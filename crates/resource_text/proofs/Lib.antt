@@ -1,3 +1,8 @@
+mod Enumerated
+mod ColumnSteps
+mod PushedItems
 pub use Rattle.cert_maker.proofs.cert_tree
+pub mod NamingSteps
+pub mod LineSteps
 pub mod NoFloat
 pub mod Mapped

@@ -1,4 +1,17 @@
 pub mod VerdictText
+pub mod Naming
+pub mod TableNotation
+pub mod EndNotation
+pub mod BagNotation
+pub mod AttrNotation
+pub mod GoalLookUps
+pub mod GoalNotation
+pub mod DeviceNotation
+pub mod DecisionWords
+pub mod Columns
+pub mod ColumnsSeen
+pub mod ExplainNotation
+pub mod TracedSeen
 pub mod RejectionNotation
 pub mod DevicesText
 pub mod ContentText
@@ -11,7 +24,6 @@ pub mod ChangeJson
 pub mod ChangeBlock
 pub mod Unfolded
 pub use Rattle.cert_maker.specs as cert_maker
-pub use Rattle.answer_notation.specs as answer_notation
 pub use Rattle.notation.specs as notation
 pub use Rattle.stack_diff.specs as stack_diff
 pub use Rattle.stack_diff.specs.config_box

@@ -2,9 +2,9 @@
 use Rattle.std.specs.Prelude.{ℕ, List, [], ◌∷◌, ◌++◌, codes, length, slice_get, Option, Some, None}
 use Rattle.std.specs.Fmt.{decimal}
 use Rattle.std.specs.List.{flat_map}
-use Rattle.answer_notation.specs.Naming.{NamingOf}
-use Rattle.answer_notation.specs.GoalNotation.{goal_notation, claimed_end}
-use Rattle.answer_notation.specs.DeviceNotation.{device_notation, devices_notation}
+use Rattle.resource_text.specs.Naming.{NamingOf}
+use Rattle.resource_text.specs.GoalNotation.{goal_notation, claimed_end}
+use Rattle.resource_text.specs.DeviceNotation.{device_notation, devices_notation}
 use Rattle.command_base.specs.answer_text.config_record.DeviceSeen.{device_numbers}
 use Rattle.command_base.specs.answer_text.reference_resolver.declared.end.End.{End}
 use Rattle.cert_maker.specs.res_value.Goal.{GoalSeen}

@@ -7,9 +7,9 @@ ghost use Rattle.answer_text.specs.ContentSeen.{row_content_of, content_of};
 ghost use Rattle.stack_diff.specs.DifferenceSeen.{row_difference_of, difference_of};
 ghost use Rattle.resource_text.specs.DifferenceText.{row_line, rows_in, before_and_after, row_lines, difference_text};
 
-use crate::bag_rows::{write_row_behind, write_rows_behind};
 use crate::content_text::{write_content, write_content_behind};
 use crate::devices_text::write_devices_in;
+use crate::rows_behind::{write_row_behind, write_rows_behind};
 use answer_text::{Content, Form, RowContent, write_key_in, write_row_value_in};
 use stack_diff::{ConfigBox, Difference, PackageNames, RowDifference};
 use std::io::{self, Write};

@@ -1,40 +1,63 @@
-//! The lines that commands print of verdicts, written straight to a writer, and how a resource differs between two stacks of layers,
-//! or what it says in one, on some devices of a box. Those of rows, ends, explanations and faults are handed on.
+//! The answers of commands in Android's notation, the lines that commands print of verdicts, and how a resource differs between
+//! two stacks of layers, or what it says in one, on some devices of a box.
 //!
-//! For the crates above: what each call appends is the one text of its value, as `specs/` define it,
-//! and nothing else; the only error is the writer's. `change_block` gives the lines that stand behind the name of a resource, for
-//! people in either form, or the text of a JSON object.
+//! For the crates above: each text is the one that `specs/` defines of its value. What is written straight to a writer, such as a
+//! verdict, appends this text and nothing else, and the only error is the writer's. An answer in Android's notation is made in
+//! memory, so that where that runs out nothing of it is written; `change_block` gives the lines that stand behind the name of a
+//! resource, for people in either form, or the text of a JSON object.
 //!
 //! ```text
+//! let naming = Naming::of(alloc, &stack, &paths)?;
+//! ends_text(&naming, &device, &ids)?; // dimen/handle 13dp from teapot.apk xhdpi-v4
 //! verdict_text(&verdict, &certificate, &mut out)?; // accepted goals 1 nodes 3
-//! device_with_end(&device, end, &mut out)?; // device sdk=21 density=160
-//!                                           // end value layer 0 decimal 5
 //! change_block(alloc, LineForm::Text(Form::Android), &packages, &difference, &phones, &german)?;
 //!                                           //  "Cancel" -> "Cancel!" on de-rAT,de-rCH
 //! ```
 #![tactic(auto)]
 
-mod bag_rows;
+mod attribute;
 mod block;
 mod change_json;
+mod columns;
 mod content_json;
 mod content_text;
+mod decision_words;
+mod devices;
 mod devices_json;
 mod devices_text;
 mod difference_text;
+mod dump;
+mod ends;
+mod explanation;
+mod goal;
+mod last;
 mod line_form;
+mod lone_table;
+mod look_ups;
+mod naming;
 mod rejection;
+mod rows;
+mod rows_behind;
+mod table_row;
 mod text_json;
 mod verdict;
+mod whole_bag;
 
-pub use answer_notation::Naming;
 pub use answer_text::{Form, dump_text, end_text, explain, rows_text};
+pub use attribute::attr_text;
 pub use block::change_block;
 pub use cert_maker::{
     Cert, ConfigBox, Goal, Made, Omitted, Omitting, Progress, Rule, Shown, Unwatched, Verdict,
 };
 pub use command_base::{LayersFault, Side, ToolFault, fault_text};
 pub use content_json::name_json;
+pub use dump::dump_in_notation;
+pub use ends::ends_text;
+pub use explanation::explain_text;
 pub use line_form::LineForm;
+pub use naming::Naming;
 pub use rejection::{Rejection, write_rejections_in, write_verdict_in};
+pub use rows::rows_in_notation;
+pub use table_row::write_row_end;
 pub use verdict::{device_with_end, verdict_text};
+pub use whole_bag::bag_text;

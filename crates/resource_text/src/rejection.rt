@@ -8,8 +8,10 @@ ghost use Rattle.cert_maker.specs.cert_tree.Certificate.{goal_of, goals_of};
 ghost use Rattle.cert_maker.specs.res_value.Goal.{goal_seen};
 ghost use Rattle.resource_text.specs.RejectionNotation.{claim_at, claim_in, claimed_line, fault_words, goal_or_place, rejected_notation, rejection_in, rejection_notation, rejections_in, rule_words, shown_notation, shown_of, verdict_in};
 
+use crate::devices::{write_device, write_two_devices};
+use crate::goal::{write_claimed_end, write_goal};
+use crate::naming::Naming;
 use crate::verdict::{write_accepted, write_failed, write_rejection};
-use answer_notation::{Naming, write_claimed_end, write_device, write_goal, write_two_devices};
 use cert_maker::{Cert, Goal, Rule, Shown, Verdict};
 use cert_tree::{CertGoal, Node};
 use command_base::End;

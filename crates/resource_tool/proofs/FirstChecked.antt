@@ -12,7 +12,7 @@ use Rattle.command_base.specs.Stop.{StopOf}
 use Rattle.command_base.specs.Output.{Output}
 use Rattle.resource_text.specs.cert_maker.cert_tree.Certificate.{GoalOf}
 use Rattle.resource_text.specs.cert_maker.res_value.Goal.{GoalSeen}
-use Rattle.resource_text.specs.answer_notation.Naming.{NamingOf}
+use Rattle.resource_text.specs.Naming.{NamingOf}
 use Rattle.resource_text.specs.RejectionNotation.{claim_at, rejected_notation, rejection_notation, shown_of, verdict_in}
 use Rattle.command_base.specs.answer_text.QueryText.{set_aside_line}
 use Rattle.command_base.specs.SetAside.{rows_set_aside}

@@ -12,8 +12,8 @@ use Rattle.command_base.specs.answer_text.bags_themes.Theme.{AttributeValues, un
 use Rattle.command_base.specs.answer_text.bags_themes.Styles.{values_after_styles}
 use Rattle.command_base.specs.answer_text.bags_themes.Attribute.{attribute_of, attributes_followed, slot_of}
 use Rattle.command_base.specs.answer_text.EndText.{end_with_name}
-use Rattle.answer_notation.specs.AttrNotation.{attr_notation}
-use Rattle.answer_notation.specs.Naming.{NamingOf}
+use Rattle.resource_text.specs.AttrNotation.{attr_notation}
+use Rattle.resource_text.specs.Naming.{NamingOf}
 use Rattle.command_base.specs.answer_text.NameText.{name_beside}
 use Rattle.command_base.specs.declared.fault.ToolFault.{ToolFault}
 use Rattle.command_base.specs.declared.status.Status.{Status}

@@ -6,13 +6,13 @@ use Rattle.command_base.specs.overlay_map.Layer.{LayerOf}
 use Rattle.command_base.specs.answer_text.NameText.{name_beside}
 use Rattle.command_base.specs.answer_text.res_value.ResId.{id_text}
 use Rattle.command_base.specs.answer_text.res_value.ValueText.{value_text}
-use Rattle.command_base.specs.answer_text.bags_themes.declared.bag_row.BagRow.{BagRow}
+use Rattle.command_base.specs.answer_text.bag_rows.declared.bag_row.BagRow.{BagRow}
 use Rattle.command_base.specs.answer_text.bags_themes.declared.bag_fault.BagFault.{BagFault}
 use Rattle.command_base.specs.answer_text.bags_themes.declared.bag_fault.BagFault.TheVariants as of_bag
 use Rattle.command_base.specs.answer_text.bags_themes.Bag.{bag_of}
 use Rattle.command_base.specs.answer_text.LayerText.{layer_text}
-use Rattle.answer_notation.specs.Naming.{NamingOf}
-use Rattle.answer_notation.specs.BagNotation.{rows_told}
+use Rattle.resource_text.specs.Naming.{NamingOf}
+use Rattle.resource_text.specs.BagNotation.{rows_told}
 use Rattle.command_base.specs.declared.fault.ToolFault.{ToolFault}
 use Rattle.command_base.specs.declared.status.Status.{Status}
 use Rattle.command_base.specs.declared.status.Status.TheVariants.{Done, Negative}

@@ -21,7 +21,7 @@ use Rattle.command_base.specs.answer_text.QueryText.{set_aside_line}
 use Rattle.resource_text.specs.declared.rejection.Rejection.{Rejection}
 use Rattle.resource_text.specs.RejectionNotation.{rejections_in, verdict_in}
 use Rattle.resource_text.specs.VerdictText.{verdict_text}
-use Rattle.resource_text.specs.answer_notation.Naming.{NamingOf}
+use Rattle.resource_text.specs.Naming.{NamingOf}
 use Rattle.command_base.specs.declared.status.Status.{Status}
 use Rattle.command_base.specs.declared.status.Status.TheVariants.{Done, Negative}
 use Rattle.command_base.specs.Output.{Output}

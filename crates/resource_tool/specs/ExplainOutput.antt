@@ -4,7 +4,7 @@ use Rattle.contract_words.specs.Faults.{◌>>=◌}
 use Rattle.command_base.specs.overlay_map.Layer.{LayerOf}
 use Rattle.command_base.specs.answer_text.reference_resolver.Ends.{references_followed, end_of}
 use Rattle.command_base.specs.answer_text.ExplainText.{explain_text}
-use Rattle.answer_notation.specs.ExplainNotation.{explain_notation}
+use Rattle.resource_text.specs.ExplainNotation.{explain_notation}
 use Rattle.command_base.specs.declared.fault.ToolFault.{ToolFault}
 use Rattle.command_base.specs.declared.status.Status.{Status}
 use Rattle.command_base.specs.declared.stop.Stop.{Stop}

@@ -4,7 +4,7 @@ use Rattle.std.specs.Io.KnownBytes.{Appends}
 use Rattle.contract_words.specs.Faults.{◌>>=◌}
 use Rattle.command_base.specs.answer_text.OnLine.{on_line}
 use Rattle.command_base.specs.overlay_map.IdMap.{MapOf}
-use Rattle.command_base.specs.answer_text.resource_table.Table.{TableOf}
+use Rattle.command_base.specs.answer_text.overlay_map.Table.{TableOf}
 use Rattle.command_base.specs.declared.fault.ToolFault.{ToolFault}
 use Rattle.command_base.specs.declared.fault.ToolFault.TheVariants.{OutOfMemory, Write}
 use Rattle.command_base.specs.StackBytes.{table_of_layer}

@@ -1,9 +1,9 @@
 -- What the commands print that are asked for one table, `rows` and `dump`, or for layers alone, `ids`, and what their words ask.
 use Rattle.std.specs.Prelude.{ℕ, Bool, ◌++◌, ◌∷◌, [], List, None, Option, Result, Ok, Err, if◌then◌else◌}
-use Rattle.command_base.specs.answer_text.type_chunks.declared.fault.TableFault.{TableFault}
-use Rattle.command_base.specs.answer_text.resource_table.Table.{TableOf, table_in}
+use Rattle.command_base.specs.answer_text.type_chunks.type_entries.declared.fault.TableFault.{TableFault}
+use Rattle.command_base.specs.answer_text.overlay_map.Table.{TableOf, table_in}
 use Rattle.command_base.specs.answer_text.RowsText.{rows_text}
-use Rattle.answer_notation.specs.TableNotation.{rows_notation, dump_notation}
+use Rattle.resource_text.specs.TableNotation.{rows_notation, dump_notation}
 use Rattle.command_base.specs.answer_text.DumpText.{dump_text}
 use Rattle.command_base.specs.declared.fault.ToolFault.{ToolFault}
 use Rattle.command_base.specs.ToolFault.{fault_of_table}

@@ -17,13 +17,13 @@ use crate::end_status::status_of_end;
 use crate::no_bag::print_no_bag;
 use crate::opened::Opened;
 use crate::text::{ended, print_text};
-use answer_notation::{Naming, attr_text};
 use answer_text::{NamesBeside, write_end_with_name, write_id};
 use command_base::{
     AskedFiles, DeviceText, End, Inputs, LayerFiles, LayerParts, LocaleRule, Named, ResId, Status,
     Stop, Theme, ToolFault, asked_sets, status_or_stop,
 };
 use names::{id_named, ids_named};
+use resource_text::{Naming, attr_text};
 use std::alloc::Global;
 use std::io::{self, Write};
 

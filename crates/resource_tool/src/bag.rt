@@ -1,6 +1,6 @@
 //! The command `bag`.
 
-ghost use Rattle.answer_notation.specs.BagNotation.{rows_told};
+ghost use Rattle.resource_text.specs.BagNotation.{rows_told};
 ghost use Rattle.std.specs.Prelude.{◌≡◌, map, string_bytes, Ok, IfOk, IfSome};
 ghost use Rattle.std.specs.List.{flat_map};
 ghost use Rattle.contract_words.specs.Writes.{Writes};
@@ -15,12 +15,12 @@ ghost use Rattle.command_base.specs.CarriesOut.{IsKept};
 use crate::no_bag::print_no_bag;
 use crate::opened::{OpenId, Opened};
 use crate::text::{ended, print_text};
-use answer_notation::{Naming, bag_text};
 use answer_text::{NamesBeside, bag, write_id, write_layer, write_value};
 use command_base::{
     BagRow, DeviceFiles, Inputs, LayerParts, LocaleRule, Named, ResId, Status, Stop, ToolFault,
     status_or_stop,
 };
+use resource_text::{Naming, bag_text};
 use std::alloc::{AllocError, Global};
 use std::io::{self, Write};
 

@@ -59,7 +59,7 @@ fn dump_printed<W: Write + Drop>(
 {
     let table = Table::open(alloc, table)?;
     if android {
-        let text = answer_notation::dump_text(alloc, table)?;
+        let text = resource_text::dump_in_notation(alloc, table)?;
         return print_text(Status::Done, &text, out);
     }
     dump_text(&table, out)?;

@@ -1,6 +1,6 @@
 //! The command `explain`.
 
-ghost use Rattle.answer_notation.specs.ExplainNotation.{explain_notation};
+ghost use Rattle.resource_text.specs.ExplainNotation.{explain_notation};
 ghost use Rattle.command_base.specs.answer_text.config_record.DeviceSeen.{device_numbers};
 ghost use Rattle.std.specs.Prelude.{◌≡◌, map, string_bytes, Ok, IfOk, IfSome};
 ghost use Rattle.command_base.specs.FilesSeen.{device_held};
@@ -14,12 +14,12 @@ ghost use Rattle.command_base.specs.CarriesOut.{IsKept};
 use crate::end_status::status_of_end;
 use crate::opened::{OpenId, Opened};
 use crate::text::print_text;
-use answer_notation::{Naming, explain_text};
 use answer_text::{NamesBeside, explain, resolve};
 use command_base::{
     DeviceFiles, Inputs, LayerParts, LocaleRule, Named, ResId, Status, Stop, ToolFault,
     status_or_stop,
 };
+use resource_text::{Naming, explain_text};
 use std::alloc::{AllocError, Global};
 use std::io::Write;
 

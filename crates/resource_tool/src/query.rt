@@ -1,6 +1,6 @@
 //! The command `query`.
 
-ghost use Rattle.answer_notation.specs.EndNotation.{ends_notation};
+ghost use Rattle.resource_text.specs.EndNotation.{ends_notation};
 ghost use Rattle.std.specs.Prelude.{◌≡◌, ◌++◌, map, string_bytes, Ok, IfOk, IfSome};
 ghost use Rattle.contract_words.specs.Writes.{Writes};
 ghost use Rattle.command_base.specs.answer_text.config_record.DeviceSeen.{device_numbers};
@@ -21,13 +21,13 @@ ghost use Rattle.command_base.specs.CarriesOut.{IsKept};
 
 use crate::end_status::is_unresolved;
 use crate::opened::Opened;
-use answer_notation::{Naming, ends_text};
 use answer_text::{NamesBeside, query_line, resolve, set_aside_line};
 use command_base::{
     AskedFiles, Device, DeviceText, End, Inputs, LayerFiles, LayerParts, LocaleRule, ResId, Stack,
     Status, Stop, ToolFault, asked_sets, rows_set_aside, status_or_stop,
 };
 use names::ids_named;
+use resource_text::{Naming, ends_text};
 use std::alloc::{AllocError, Global};
 use std::io::{self, Write};
 

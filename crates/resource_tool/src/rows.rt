@@ -59,7 +59,7 @@ fn rows_printed<W: Write + Drop>(
 {
     let table = Table::open(alloc, table)?;
     if android {
-        let text = answer_notation::rows_text(alloc, table)?;
+        let text = resource_text::rows_in_notation(alloc, table)?;
         return print_text(Status::Done, &text, out);
     }
     rows_text(&table, out)?;

@@ -13,8 +13,8 @@ use Rattle.resource_tool.specs.BoxFiles.{box_files, goal_files}
 use Rattle.resource_tool.specs.Check.{check_files}
 use Rattle.report_commands.specs.Survey.{survey_files}
 use Rattle.report_commands.specs.Show.{show_files}
-use Rattle.diff_command.specs.Diff.{diff_files}
-use Rattle.diff_command.specs.Values.{values_files}
+use Rattle.report_commands.specs.Diff.{diff_files}
+use Rattle.report_commands.specs.Values.{values_files}
 use Rattle.restool.specs.declared.request.Request.{Request}
 use Rattle.restool.specs.declared.request.Request.TheVariants as asks
 use Rattle.restool.specs.Left.{LayerWordsOf, StopsAt}

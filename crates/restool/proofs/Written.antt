@@ -33,10 +33,10 @@ use Rattle.resource_tool.specs.CheckOutput.{IsCheckAnswer}
 use Rattle.report_commands.specs.Survey.{SurveyBytes}
 use Rattle.report_commands.specs.SurveyOutput.{survey_output_by}
 use Rattle.report_commands.specs.Show.{ShowBytes, shown_output}
-use Rattle.diff_command.specs.Diff.{OpenDiffOf}
-use Rattle.diff_command.specs.DiffOutput.{IsDiffOutput}
-use Rattle.diff_command.specs.Unused.{IsUnusedOutput, OpenUnusedOf}
-use Rattle.diff_command.specs.ValuesOutput.{IsValuesOutput}
+use Rattle.report_commands.specs.Diff.{OpenDiffOf}
+use Rattle.report_commands.specs.DiffOutput.{IsDiffOutput}
+use Rattle.report_commands.specs.Unused.{IsUnusedOutput, OpenUnusedOf}
+use Rattle.report_commands.specs.ValuesOutput.{IsValuesOutput}
 use Rattle.restool.specs.declared.request.Request.{Request}
 use Rattle.restool.specs.declared.request.Request.TheVariants as asks
 use Rattle.restool.specs.Request.{Answers, ErrorsGet}

@@ -38,9 +38,9 @@ use Rattle.resource_tool.specs.Make.{Makes}
 use Rattle.resource_tool.specs.Check.{Checks}
 use Rattle.report_commands.specs.Survey.{Surveys}
 use Rattle.report_commands.specs.Show.{ShowsTrees}
-use Rattle.diff_command.specs.Diff.{Diffs}
-use Rattle.diff_command.specs.Unused.{TellsUnused}
-use Rattle.diff_command.specs.Values.{TellsValues}
+use Rattle.report_commands.specs.Diff.{Diffs}
+use Rattle.report_commands.specs.Unused.{TellsUnused}
+use Rattle.report_commands.specs.Values.{TellsValues}
 use Rattle.resource_tool.specs.command_base.CarriesOut.{IsKept}
 
 -- ---- no words

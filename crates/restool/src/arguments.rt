@@ -15,7 +15,7 @@ use crate::command_line::{
     Argument, DOT, JSON, LOCALES, MAX_NODES, MOST_NODES, NODES_IF_LEFT_OUT, RAW,
 };
 use clap::ArgMatches;
-use diff_command::{Form, LineForm};
+use report_commands::{Form, LineForm};
 use resource_tool::{LocaleRule, Named};
 use std::alloc::Global;
 

@@ -47,18 +47,6 @@ pub(crate) struct CommandEnd<'e, 'a> {
     pub reached: Reached,
 }
 
-impl<'e, 'a> CommandEnd<'e, 'a> {
-    /// That of a command that was not begun.
-    pub(crate) fn unanswered(outcome: &'e Result<Status, Stop<'a>>) -> CommandEnd<'e, 'a> {
-        CommandEnd {
-            outcome,
-            said: b"",
-            left: b"",
-            reached: Reached { done: 0, all: 0 },
-        }
-    }
-}
-
 /// A hint for how a command ended.
 pub(crate) fn hint_of<I: Inputs>(
     alloc: Global,
@@ -73,8 +61,12 @@ pub(crate) fn hint_of<I: Inputs>(
     };
     let mut hint = Hint::new(alloc);
     match ended.outcome {
-        Ok(Status::Done) => asked.say_overlays(ended.left, &mut hint),
-        Ok(Status::Negative) => asked.say_negative(request, ended, &mut hint),
+        Ok(status) => {
+            if let Status::Negative = status {
+                asked.say_answer(request, ended.said, ended.reached, &mut hint);
+            }
+            asked.say_overlays(ended.left, &mut hint);
+        }
         Err(stop) => asked.say_stop(stop, &mut hint),
     }
     hint.whole()
@@ -110,24 +102,8 @@ pub(crate) struct Asked<'t, 'a, I> {
 }
 
 impl<I: Inputs> Asked<'_, '_, I> {
-    fn say_negative(&self, request: &Request<'_>, ended: &CommandEnd<'_, '_>, hint: &mut Hint) {
-        self.say_answer(request, ended, hint);
-        if hint.is_empty() {
-            self.say_overlays(ended.left, hint);
-        }
-    }
-
+    // What the files tell of it, or else what is said of all such.
     fn say_stop(&self, stop: &Stop<'_>, hint: &mut Hint) {
-        self.say_why(stop, hint);
-        if hint.is_empty()
-            && let Some(said) = stop.hint()
-        {
-            hint.say_text(said);
-        }
-    }
-
-    // What the files tell of it.
-    fn say_why(&self, stop: &Stop<'_>, hint: &mut Hint) {
         match stop {
             Stop::File(path) => self.say_no_file(path, hint),
             Stop::LayerFile(path) => self.say_unread(path.as_str(), hint),
@@ -139,6 +115,11 @@ impl<I: Inputs> Asked<'_, '_, I> {
             Stop::DevicePart(part) => say_part(self.alloc, self.parts.rule, part, hint),
             Stop::Tool(fault) => self.say_fault(*fault, hint),
             _ => {}
+        }
+        if hint.is_empty()
+            && let Some(said) = stop.hint()
+        {
+            hint.say_text(said);
         }
     }
 }

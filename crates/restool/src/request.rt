@@ -22,8 +22,7 @@ use crate::command_line::{
 };
 use crate::left::LayerWords;
 use clap::ArgMatches;
-use diff_command::{Diff, Unused, Values};
-use report_commands::{Show, Survey};
+use report_commands::{Diff, Show, Survey, Unused, Values};
 use resource_tool::{
     Attr, Bag, Check, DeviceForm, Dump, Explain, Ids, Inputs, Make, Map, Query, Rows, Status, Stop,
     Watch,

@@ -10,7 +10,7 @@ use crate::left::left_lines;
 use crate::request::{Request, answer, layer_words};
 use crate::words::read_words;
 use crate::words_fault::WordsFault;
-use resource_tool::{ExitStatus, Inputs, Status, Stop, Watch};
+use resource_tool::{ExitStatus, Inputs, Reached, Status, Stop, Watch};
 use std::alloc::Global;
 use std::io::{BufWriter, Write};
 use std::time::Clock;
@@ -168,7 +168,13 @@ fn unanswered<'a, I: Inputs, O: Write + Drop>(
     let (out, _nothing) = out.into_parts();
     let outcome = Err(stop);
     let hint = if is_terminal {
-        hint_of(alloc, inputs, request, &CommandEnd::unanswered(&outcome))
+        let ended = CommandEnd {
+            outcome: &outcome,
+            said: b"",
+            left: b"",
+            reached: Reached { done: 0, all: 0 },
+        };
+        hint_of(alloc, inputs, request, &ended)
     } else {
         None
     };

@@ -4,7 +4,7 @@ use Rattle.std.specs.Prelude.{slice_get, option_and_then, Contains}
 use Rattle.std.proofs.lemmas.List.{take_more, map-append}
 use Rattle.std.proofs.lemmas.List.Elements.{Contains-push, Contains-push_cases, Contains-append_left}
 use Rattle.reference_resolver.specs.res_value.declared.res_id.ResId.{ResId}
-use Rattle.reference_resolver.specs.resource_table.Table.{rows_of}
+use Rattle.reference_resolver.specs.overlay_map.Table.{rows_of}
 use Rattle.reference_resolver.specs.overlay_map.Layer.{LayerOf}
 use Rattle.stack_diff.specs.declared.row_place.RowPlace.{RowPlace}
 use Rattle.stack_diff.specs.declared.row_use.RowUse.{RowUse}

@@ -5,7 +5,7 @@ use Rattle.std.specs.List.{list_any}
 use Rattle.std.proofs.lemmas.Bool.{or_parts}
 use Rattle.std.proofs.lemmas.List.Elements.{Contains-append_cases, Contains-append_left, Contains-append_right}
 use Rattle.reference_resolver.specs.type_chunks.Row.{RowOf, with_id}
-use Rattle.reference_resolver.specs.resource_table.Table.{TableOf, rows_of}
+use Rattle.reference_resolver.specs.overlay_map.Table.{TableOf, rows_of}
 use Rattle.reference_resolver.specs.overlay_map.IdMap.{MapOf, look_of}
 use Rattle.reference_resolver.specs.overlay_map.Layer.{LayerOf, rows_for, rows_with}
 use Rattle.reference_resolver.specs.overlay_map.Candidates.{CandOf, candidates_at, candidates_from, candidates_of}

@@ -12,7 +12,7 @@ use Rattle.std.proofs.lemmas.Map.Views.{btree_set_contains_iff, exact_unsigned_e
 use Rattle.std.proofs.lemmas.Bool.{le-ltb, eq-eqb, eqb-true}
 use Rattle.std.proofs.lemmas.List.{map-append, drop_more}
 use Rattle.reference_resolver.specs.res_value.declared.res_id.ResId.{ResId}
-use Rattle.reference_resolver.specs.resource_table.Table.{TableOf}
+use Rattle.reference_resolver.specs.overlay_map.Table.{TableOf}
 use Rattle.reference_resolver.specs.type_chunks.Row.{RowOf}
 use Rattle.reference_resolver.specs.overlay_map.IdMap.{MapOf, look_of, targets_in}
 use Rattle.reference_resolver.specs.overlay_map.Layer.{LayerOf}

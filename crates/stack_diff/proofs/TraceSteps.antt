@@ -15,7 +15,7 @@ use Rattle.answer_text.specs.reference_resolver.declared.next.Next.TheVariants a
 use Rattle.answer_text.specs.reference_resolver.Selection.{selected, step_of, best_after, best_of, scan_candidates}
 use Rattle.answer_text.specs.reference_resolver.Ends.{references_followed, next_of, cut_off, next_within, end_of}
 use Rattle.answer_text.specs.reference_resolver.Trace.{Trace, scan_look_up, scan_chain, look_ups_of}
-use Rattle.answer_text.specs.bags_themes.declared.bag_row.BagRow.{BagRow}
+use Rattle.answer_text.specs.bag_rows.declared.bag_row.BagRow.{BagRow}
 use Rattle.answer_text.specs.bags_themes.declared.bag_fault.BagFault.{BagFault}
 use Rattle.answer_text.specs.bags_themes.Bag.{FoundBagOf, bag_in, parent_of, chain_of, most_parents, merged, bag_of}
 use Rattle.answer_text.specs.bags_themes.BagIds.{most_bags, ids_after}

@@ -2,7 +2,7 @@
 use Rattle.std.specs.Prelude.{◌≡◌, ◌⊎◌, ◌↔◌, ℕ, zero, suc, ◌≤◌, nat_le, max, ◌&&◌, Bool, true, false, List, [], ◌∷◌, map, length, replicate, Option, Some, slice_get, Contains}
 use Rattle.std.specs.Option.{option_map_or}
 use Rattle.config_box.specs.box_answers.NumberSet.{SetOf}
-use Rattle.reference_resolver.specs.resource_table.Table.{rows_of}
+use Rattle.reference_resolver.specs.overlay_map.Table.{rows_of}
 use Rattle.reference_resolver.specs.overlay_map.Layer.{LayerOf}
 use Rattle.stack_diff.specs.declared.row_place.RowPlace.{RowPlace}
 use Rattle.stack_diff.specs.declared.row_use.RowUse.{RowUse}

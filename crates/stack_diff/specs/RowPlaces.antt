@@ -1,7 +1,7 @@
 -- Where the rows stand that may stand for an id.
 use Rattle.std.specs.Prelude.{ℕ, ◌+◌, ◌==◌, List, [], ◌∷◌, ◌++◌, map, Option, Some, None, Contains, if◌then◌else◌}
 use Rattle.reference_resolver.specs.type_chunks.Row.{RowOf}
-use Rattle.reference_resolver.specs.resource_table.Table.{TableOf, rows_of}
+use Rattle.reference_resolver.specs.overlay_map.Table.{TableOf, rows_of}
 use Rattle.reference_resolver.specs.overlay_map.Layer.{LayerOf, own_id}
 use Rattle.stack_diff.specs.declared.row_place.RowPlace.{RowPlace}
 

@@ -1,7 +1,7 @@
 -- What becomes of the rows of a stack on the devices of a box.
 use Rattle.std.specs.Prelude.{◌≡◌, ℕ, List, map, length, Option, Some, None, option_and_then, slice_get, Contains}
 use Rattle.config_box.specs.box_answers.NumberSet.{SetOf}
-use Rattle.reference_resolver.specs.resource_table.Table.{rows_of}
+use Rattle.reference_resolver.specs.overlay_map.Table.{rows_of}
 use Rattle.reference_resolver.specs.overlay_map.Layer.{LayerOf}
 use Rattle.stack_diff.specs.declared.row_place.RowPlace.{RowPlace}
 use Rattle.stack_diff.specs.declared.row_use.RowUse.{RowUse}

@@ -1,7 +1,7 @@
 //! The layers of a stack, with the places of their rows.
 
 ghost use Rattle.std.specs.Prelude.{◌≡◌, length};
-ghost use Rattle.reference_resolver.specs.resource_table.Table.{rows_of};
+ghost use Rattle.reference_resolver.specs.overlay_map.Table.{rows_of};
 ghost use Rattle.stack_diff.specs.PlacesSeen.{ArePlacesOf, ListsIds};
 
 use crate::look_up::Among;

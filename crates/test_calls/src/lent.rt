@@ -4,8 +4,8 @@
 use crate::layers::{Malformed, push_base, push_overlay};
 use crate::marked::{bytes_of, tell, word};
 use cert_checker::{Coord, ResId, Stack};
+use overlay_map::{Row, Table};
 use res_value::Cell;
-use resource_table::{Row, Table};
 use std::alloc::Global;
 use std::test::Fail;
 use string_pool::Text;

@@ -5,9 +5,10 @@ use Rattle.std.proofs.lemmas.Bool.Decides.{nat_tests}
 use Rattle.contract_words.proofs.FaultSteps.{checked_by-ok}
 use Rattle.string_pool.specs.chunk_walk.Chunk.{ChunkOf}
 use Rattle.string_pool.specs.chunk_walk.declared.chunk.ChunkFault.{ChunkFault}
-use Rattle.type_chunks.specs.declared.type_spec.TypeSpec.{TypeSpec}
+use Rattle.type_entries.specs.declared.type_spec.TypeSpec.{TypeSpec}
+use Rattle.type_entries.specs.TypeSpec.{TypeSpecOf, type_spec_of, spec_fields, type_spec_faults, type_spec_in}
 use Rattle.type_chunks.specs.declared.known_specs.KnownSpecs.{KnownSpecs}
-use Rattle.type_chunks.specs.TypeSpec.{TypeSpecOf, type_spec_of, spec_fields, type_spec_faults, type_spec_in, last_spec}
+use Rattle.type_chunks.specs.LastSpec.{last_spec}
 use Rattle.type_chunks.specs.KnownSpecs.{kept_spec, Knows}
 
 -- a type spec that is read has the fields of its chunk

@@ -1,9 +1,3 @@
-pub mod TypeSteps
 pub mod KnownSteps
-pub mod EntryOffsetSteps
-pub mod EntrySteps
-pub mod EntriesSteps
-pub mod TypeRowsSteps
 pub mod PlacesSteps
-pub mod OwnSteps
-pub mod WrongSteps
+pub use Rattle.type_entries.proofs as type_entries

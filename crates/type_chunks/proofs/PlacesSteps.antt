@@ -14,25 +14,26 @@ use Rattle.contract_words.specs.Sequences.{with_front}
 use Rattle.string_pool.specs.chunk_walk.Chunk.{ChunkOf, chunk_of, chunk_within}
 use Rattle.string_pool.specs.chunk_walk.Chunks.{StandsAt}
 use Rattle.string_pool.specs.chunk_walk.declared.chunk.ChunkFault.{ChunkFault}
-use Rattle.type_chunks.specs.declared.fault.TableFault.{TableFault}
-use Rattle.type_chunks.specs.declared.fault.TableFault.TheVariants as faults
+use Rattle.type_entries.specs.declared.fault.TableFault.{TableFault}
+use Rattle.type_entries.specs.declared.fault.TableFault.TheVariants as faults
+use Rattle.type_entries.specs.declared.owner.Owner.{Owner}
+use Rattle.type_entries.specs.declared.type_spec.TypeSpec.{TypeSpec}
+use Rattle.type_entries.specs.Row.{RowOf}
+use Rattle.type_entries.specs.TypeSpec.{TypeSpecOf, type_spec_of, type_spec_in}
+use Rattle.type_entries.specs.TypeChunk.{TypeChunkOf, type_with}
+use Rattle.type_entries.specs.Entries.{IsChecked, rows_from, rows_of_entries}
+use Rattle.type_entries.specs.TypeRows.{rows_of_each}
+use Rattle.type_entries.proofs.EntriesSteps.{rows_of_entries-read}
+use Rattle.type_entries.proofs.TypeRowsSteps.{length-rows_of_chunk}
 use Rattle.type_chunks.specs.declared.known_specs.KnownSpecs.{KnownSpecs}
-use Rattle.type_chunks.specs.declared.owner.Owner.{Owner}
 use Rattle.type_chunks.specs.declared.package_types.PackageTypes.{PackageTypes}
 use Rattle.type_chunks.specs.declared.type_place.TypePlace.{TypePlace}
-use Rattle.type_chunks.specs.declared.type_spec.TypeSpec.{TypeSpec}
 use Rattle.type_chunks.specs.Layout.{type_kind, type_spec_kind}
 use Rattle.type_chunks.specs.FoundChunk.{found_chunk}
-use Rattle.type_chunks.specs.Row.{RowOf}
-use Rattle.type_chunks.specs.TypeSpec.{TypeSpecOf, type_spec_of, type_spec_in}
-use Rattle.type_chunks.specs.TypeChunk.{TypeChunkOf, type_with, type_in}
-use Rattle.type_chunks.specs.Entries.{IsChecked, rows_from}
+use Rattle.type_chunks.specs.LastSpec.{type_in}
 use Rattle.type_chunks.specs.KnownSpecs.{kept_for, Knows, SpecsStand}
-use Rattle.type_chunks.specs.PackageChildren.{rows_of_entries, rows_of_child, rows_of_kept}
+use Rattle.type_chunks.specs.PackageChildren.{rows_of_child, rows_of_kept}
 use Rattle.type_chunks.specs.TypePlaces.{spec_at, SpecStands, type_at, IsKept, AreKept, rows_of_read, rows_at, rows_of_places}
-use Rattle.type_chunks.specs.TypeRows.{rows_of_each}
-use Rattle.type_chunks.proofs.EntriesSteps.{rows_of_entries-read}
-use Rattle.type_chunks.proofs.TypeRowsSteps.{length-rows_of_chunk}
 
 module _ (owner : Owner) (within : ChunkOf) where
   pub rows_of_places-none : rows_of_places owner within [] ≡ []

@@ -2,8 +2,8 @@
 use Rattle.std.specs.Prelude.{Result, Ok, Err}
 use Rattle.string_pool.specs.chunk_walk.Chunk.{ChunkOf}
 use Rattle.string_pool.specs.chunk_walk.declared.chunk.ChunkFault.{ChunkFault}
-use Rattle.type_chunks.specs.declared.fault.TableFault.{TableFault}
-use Rattle.type_chunks.specs.declared.fault.TableFault.TheVariants as faults
+use Rattle.type_entries.specs.declared.fault.TableFault.{TableFault}
+use Rattle.type_entries.specs.declared.fault.TableFault.TheVariants as faults
 
 -- a chunk, or its fault
 abbrev pub found_chunk : Result ChunkOf ChunkFault → Result ChunkOf TableFault

@@ -4,9 +4,10 @@ use Rattle.std.specs.Prelude.{◌≡◌, ℕ, ◌<◌, List, Option, None, Resul
 use Rattle.std.specs.Option.{option_map}
 use Rattle.string_pool.specs.chunk_walk.Chunk.{ChunkOf}
 use Rattle.string_pool.specs.chunk_walk.declared.chunk.ChunkFault.{ChunkFault}
+use Rattle.type_entries.specs.declared.type_spec.TypeSpec.{TypeSpec}
+use Rattle.type_entries.specs.TypeSpec.{TypeSpecOf, type_spec_of}
 use Rattle.type_chunks.specs.declared.known_specs.KnownSpecs.{KnownSpecs}
-use Rattle.type_chunks.specs.declared.type_spec.TypeSpec.{TypeSpec}
-use Rattle.type_chunks.specs.TypeSpec.{TypeSpecOf, type_spec_of, last_spec}
+use Rattle.type_chunks.specs.LastSpec.{last_spec}
 use Rattle.type_chunks.specs.TypePlaces.{SpecStands}
 
 -- what is kept for an id

@@ -1,18 +1,13 @@
 pub mod Layout
+pub mod LastSpec
 pub mod FoundChunk
-pub mod Row
-pub mod TypeSpec
-pub mod TypeChunk
-pub mod EntryOffsets
-pub mod Entry
-pub mod Checks
-pub mod Entries
-pub mod TypeRows
 pub mod TypePlaces
-pub mod WrongSizes
 pub mod PackageChildren
 pub mod KnownSpecs
-pub use Rattle.config_record.specs as config_record
-pub use Rattle.res_value.specs as res_value
-pub use Rattle.string_pool.specs as string_pool
-pub use Rattle.string_pool.specs.chunk_walk
+pub use Rattle.type_entries.specs as type_entries
+pub use Rattle.type_entries.specs.Row
+pub use Rattle.type_entries.specs.TypeRows
+pub use Rattle.type_entries.specs.config_record
+pub use Rattle.type_entries.specs.res_value
+pub use Rattle.type_entries.specs.string_pool
+pub use Rattle.type_entries.specs.chunk_walk

@@ -1,29 +1,21 @@
 -- The rows of the chunks in a package, in the order of the file, or the first fault; and those of the types that are
 -- kept of it.
-use Rattle.std.specs.Prelude.{List, [], ◌==◌, not, Result, Ok, Err, if◌then◌else◌}
-use Rattle.contract_words.specs.Faults.{◌>>=◌, refuse}
-use Rattle.contract_words.specs.Sequences.{joined_each, joined_from, with_before}
+use Rattle.std.specs.Prelude.{List, [], ◌==◌, Result, Ok, Err, if◌then◌else◌}
+use Rattle.contract_words.specs.Faults.{◌>>=◌}
+use Rattle.contract_words.specs.Sequences.{joined_each, with_before}
 use Rattle.string_pool.specs.chunk_walk.Chunk.{ChunkOf, chunk_of}
 use Rattle.string_pool.specs.chunk_walk.Chunks.{children_of}
 use Rattle.string_pool.specs.chunk_walk.declared.chunk.ChunkFault.{ChunkFault}
-use Rattle.type_chunks.specs.declared.fault.TableFault.{TableFault}
-use Rattle.type_chunks.specs.declared.fault.TableFault.TheVariants as faults
-use Rattle.type_chunks.specs.declared.owner.Owner.{Owner}
+use Rattle.type_entries.specs.declared.fault.TableFault.{TableFault}
+use Rattle.type_entries.specs.declared.fault.TableFault.TheVariants as faults
+use Rattle.type_entries.specs.declared.owner.Owner.{Owner}
+use Rattle.type_entries.specs.Row.{RowOf}
+use Rattle.type_entries.specs.TypeSpec.{type_spec_in}
+use Rattle.type_entries.specs.Entries.{rows_of_entries}
 use Rattle.type_chunks.specs.declared.package_types.PackageTypes.{PackageTypes}
 use Rattle.type_chunks.specs.Layout.{type_kind, type_spec_kind}
-use Rattle.type_chunks.specs.Row.{RowOf}
-use Rattle.type_chunks.specs.TypeSpec.{type_spec_in}
-use Rattle.type_chunks.specs.TypeChunk.{TypeChunkOf, type_in}
-use Rattle.type_chunks.specs.EntryOffsets.{indexes_rise}
-use Rattle.type_chunks.specs.Entry.{rows_of_entry}
+use Rattle.type_chunks.specs.LastSpec.{type_in}
 use Rattle.type_chunks.specs.TypePlaces.{rows_of_places}
-
--- The rows of the entries of a type, in the order of its entry offsets. That the indexes rise is checked before the first
--- entry.
-abbrev pub rows_of_entries : TypeChunkOf → Result (List RowOf) TableFault
-rows_of_entries chunk = do
-  _ ← refuse (not (indexes_rise chunk)) (faults.Offsets chunk.place)
-  joined_from (rows_of_entry chunk) 0 chunk.offset_count
 
 -- A chunk in a package, with the chunks that stand before it there. A type spec has no rows, and
 -- chunks of other kinds are passed over.

@@ -4,15 +4,15 @@ use Rattle.std.specs.Result.{ForOk}
 use Rattle.std.specs.List.{flat_map}
 use Rattle.contract_words.specs.Faults.{◌>>=◌}
 use Rattle.string_pool.specs.chunk_walk.Chunk.{ChunkOf, chunk_within}
-use Rattle.type_chunks.specs.declared.fault.TableFault.{TableFault}
-use Rattle.type_chunks.specs.declared.owner.Owner.{Owner}
+use Rattle.type_entries.specs.declared.fault.TableFault.{TableFault}
+use Rattle.type_entries.specs.declared.owner.Owner.{Owner}
+use Rattle.type_entries.specs.declared.type_spec.TypeSpec.{TypeSpec}
+use Rattle.type_entries.specs.Row.{RowOf}
+use Rattle.type_entries.specs.TypeSpec.{TypeSpecOf, type_spec_of, type_spec_in}
+use Rattle.type_entries.specs.TypeChunk.{TypeChunkOf, type_with}
+use Rattle.type_entries.specs.Entries.{IsChecked, rows_from}
 use Rattle.type_chunks.specs.declared.type_place.TypePlace.{TypePlace}
-use Rattle.type_chunks.specs.declared.type_spec.TypeSpec.{TypeSpec}
 use Rattle.type_chunks.specs.FoundChunk.{found_chunk}
-use Rattle.type_chunks.specs.Row.{RowOf}
-use Rattle.type_chunks.specs.TypeSpec.{TypeSpecOf, type_spec_of, type_spec_in}
-use Rattle.type_chunks.specs.TypeChunk.{TypeChunkOf, type_with}
-use Rattle.type_chunks.specs.Entries.{IsChecked, rows_from}
 
 -- the type spec at a place of a package, counted from its start
 abbrev pub spec_at : ChunkOf → ℕ → Result TypeSpecOf TableFault

@@ -3,9 +3,8 @@
 ghost use Rattle.std.specs.Prelude.{◌≡◌, ℕ, ◌<◌, [], Some, slice_index, if◌then◌else◌, ◌==◌};
 ghost use Rattle.string_pool.specs.chunk_walk.Chunk.{ChunkOf};
 
-use crate::layout::type_header;
-use crate::type_spec::TypeSpec;
 use string_pool::Chunk;
+use type_entries::{TypeSpec, type_header};
 
 /// A place for each id that a type can have.
 const IDS: usize = 256;
@@ -17,7 +16,7 @@ pub(crate) struct KnownSpecs<'a> {
 }
 
 impl<'a> KnownSpecs<'a> {
-    ghost use Rattle.type_chunks.specs.TypeSpec.{type_spec_of};
+    ghost use Rattle.type_entries.specs.TypeSpec.{type_spec_of};
     ghost use Rattle.type_chunks.specs.KnownSpecs.{kept_for, kept_spec, Knows, SpecsStand};
 
     pub fn new() -> Self

@@ -10,42 +10,22 @@
 //! }
 //! ```
 //!
-//! A package holds type specs and types, and types hold entries, each where an entry offset of the type says. What rows these
-//! are, and which fault is the first, is said of each in `specs/PackageChildren.antt`, `specs/TypeSpec.antt`,
-//! `specs/TypeChunk.antt`, `specs/EntryOffsets.antt` and `specs/Entry.antt`.
+//! A package holds type specs and types, and what stands in a type is read by `type_entries`. Which type spec a type belongs
+//! to is said in `specs/LastSpec.antt`, and what rows a package has, and which fault is the first, in
+//! `specs/PackageChildren.antt`.
 #![tactic(auto)]
 
-mod bag_checks;
-mod checked_type;
-mod entry;
-mod entry_check;
-mod entry_flags;
-mod entry_offsets;
-mod fault;
 mod known_specs;
 mod layout;
-mod owner;
 mod package_children;
 mod package_types;
-mod row;
-mod type_check;
-mod type_chunk;
-mod type_flags;
 mod type_place;
-mod type_rows;
-mod type_spec;
 mod types;
 
-pub use checked_type::CheckedType;
-pub use config_record::DeviceFault;
-pub use fault::TableFault;
-pub use owner::Owner;
 pub use package_children::types_of_children;
 pub use package_types::PackageTypes;
-pub use res_value::{Cell, MapRows, ResId, Value, kind};
-pub use row::Row;
-pub use string_pool::{
-    ALIGNMENT, Chunk, ChunkFault, Pool, PoolFault, StringFault, Text, chunk_at, u32_within,
+pub use string_pool::{ALIGNMENT, Chunk, ChunkFault, Pool, PoolFault, StringFault, Text};
+pub use type_entries::{
+    Cell, CheckedType, DeviceFault, MapRows, Owner, ResId, Row, TableFault, TypeRows, Value, kind,
 };
-pub use type_rows::TypeRows;
 pub use types::Types;

@@ -6,24 +6,20 @@ ghost use Rattle.string_pool.specs.chunk_walk.Chunks.{StandsAt, StandsIn};
 ghost use Rattle.string_pool.specs.chunk_walk.declared.chunk.ChunkFault.{ChunkFault};
 ghost use Rattle.contract_words.specs.Exact.{GivesOr};
 ghost use Rattle.contract_words.specs.Sequences.{Pushes};
-ghost use Rattle.type_chunks.specs.declared.fault.TableFault.TheVariants.{OutOfMemory};
+ghost use Rattle.type_entries.specs.declared.fault.TableFault.TheVariants.{OutOfMemory};
 ghost use Rattle.type_chunks.specs.Layout.{type_kind};
 ghost use Rattle.type_chunks.specs.KnownSpecs.{Knows, SpecsStand};
 ghost use Rattle.type_chunks.specs.PackageChildren.{rows_of_kept};
 ghost use Rattle.type_chunks.specs.TypePlaces.{AreKept, rows_of_places};
 ghost use Rattle.type_chunks.specs.PackageChildren.{rows_of_child, rows_of_children};
 
-use crate::fault::TableFault;
 use crate::known_specs::KnownSpecs;
 use crate::layout::kind;
-use crate::owner::Owner;
 use crate::package_types::PackageTypes;
-use crate::type_check::check_entries;
-use crate::type_chunk::TypeChunk;
 use crate::type_place::TypePlace;
-use crate::type_spec::TypeSpec;
 use std::alloc::Global;
 use string_pool::{Chunk, ChunkFault};
+use type_entries::{Owner, TableFault, TypeChunk, TypeSpec, check_entries};
 
 /// The types among the chunks in a package, each of its entries checked.
 #[tactic(auto, using(contract_words::proofs::SequenceSteps::knowing_steps))]

@@ -4,10 +4,10 @@ ghost use Rattle.std.specs.Prelude.{◌<◌, ◌^◌, length};
 ghost use Rattle.string_pool.specs.chunk_walk.Chunk.{chunk_of};
 ghost use Rattle.type_chunks.specs.TypePlaces.{AreKept};
 
-use crate::owner::Owner;
 use crate::type_place::TypePlace;
 use crate::types::Types;
 use string_pool::Chunk;
+use type_entries::Owner;
 
 /// The types of a package, each entry of which was checked. Of each the place alone is kept, so memory grows by
 /// eight bytes with each.
@@ -22,7 +22,7 @@ pub struct PackageTypes<'a> {
 
 impl<'a> PackageTypes<'a> {
     ghost use Rattle.std.specs.Prelude.{◌≡◌};
-    ghost use Rattle.type_chunks.specs.TypeRows.{rows_of_each};
+    ghost use Rattle.type_entries.specs.TypeRows.{rows_of_each};
     ghost use Rattle.type_chunks.specs.PackageChildren.{rows_of_kept};
 
     /// The types, read anew one after the other.

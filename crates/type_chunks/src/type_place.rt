@@ -2,8 +2,8 @@
 
 ghost use Rattle.std.specs.Prelude.{◌≡◌, ◌≤◌, Ok, length};
 
-use crate::type_spec::TypeSpec;
 use string_pool::Chunk;
+use type_entries::TypeSpec;
 
 /// Where a type and its type spec stand in their package, from its start. That is all that is kept of a type: what
 /// its header says is read anew.
@@ -16,7 +16,7 @@ pub(crate) struct TypePlace {
 impl TypePlace {
     ghost use Rattle.string_pool.specs.chunk_walk.Chunk.{chunk_of, chunk_within};
     ghost use Rattle.string_pool.specs.chunk_walk.Chunks.{StandsAt};
-    ghost use Rattle.type_chunks.specs.TypeSpec.{type_spec_of};
+    ghost use Rattle.type_entries.specs.TypeSpec.{type_spec_of};
     ghost use Rattle.type_chunks.specs.TypePlaces.{spec_at, SpecStands};
 
     /// The place of a type of a type spec, which both stand in a package.

@@ -3,18 +3,15 @@
 ghost use Rattle.std.specs.Prelude.{◌≡◌, ◌≤◌, Ok, IsOk, length};
 ghost use Rattle.std.specs.Slice.Iter.{iter_rest};
 ghost use Rattle.string_pool.specs.chunk_walk.Chunk.{chunk_of, chunk_within};
-ghost use Rattle.type_chunks.specs.TypeSpec.{type_spec_of};
-ghost use Rattle.type_chunks.specs.TypeRows.{rows_of_type};
+ghost use Rattle.type_entries.specs.TypeSpec.{type_spec_of};
+ghost use Rattle.type_entries.specs.TypeRows.{rows_of_type};
 ghost use Rattle.type_chunks.specs.TypePlaces.{spec_at, IsKept, AreKept, rows_at};
 
-use crate::checked_type::CheckedType;
-use crate::owner::Owner;
-use crate::type_chunk::TypeChunk;
 use crate::type_place::TypePlace;
-use crate::type_spec::TypeSpec;
 use std::marker::Model;
 use std::slice::Iter;
 use string_pool::Chunk;
+use type_entries::{CheckedType, Owner, TypeChunk, TypeSpec};
 
 /// The types of a package that are left, in the order of the file. Contracts see the rows of each.
 #[derive(Drop)]
@@ -29,7 +26,7 @@ impl<'t, 'a> Model for Types<'t, 'a> {
     ghost use Rattle.std.specs.Prelude.{List, map};
     ghost use Rattle.std.specs.Slice.Iter.{iter_rest};
     ghost use Rattle.string_pool.specs.chunk_walk.Chunk.{chunk_of};
-    ghost use Rattle.type_chunks.specs.Row.{RowOf};
+    ghost use Rattle.type_entries.specs.Row.{RowOf};
     ghost use Rattle.type_chunks.specs.TypePlaces.{rows_at};
 
     ghost Value = { List (List RowOf) };
@@ -68,7 +65,7 @@ impl<'t, 'a> Iterator for Types<'t, 'a> {
 }
 
 // The type at a place of a package.
-#[tactic(auto, using(crate::proofs::PlacesSteps::chunk_there, crate::proofs::PlacesSteps::spec_there), unfolding(crate::specs::TypePlaces::rows_at, crate::specs::TypeRows::rows_of_type))]
+#[tactic(auto, using(crate::proofs::PlacesSteps::chunk_there, crate::proofs::PlacesSteps::spec_there), unfolding(crate::specs::TypePlaces::rows_at, type_entries::specs::TypeRows::rows_of_type))]
 fn type_anew<'a>(owner: Owner, container: &Chunk<'a>, place: TypePlace) -> CheckedType<'a>
     requires { IsKept owner (chunk_of container.now) place }
     ensures { rows_of_type result ≡ rows_at owner (chunk_of container.now) place }

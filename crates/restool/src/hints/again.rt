@@ -1,6 +1,5 @@
 //! The files of a run, read once more.
 
-use crate::hints::Asked;
 use command_base::{InputFault, Inputs, Place};
 
 /// What gives the bytes of those files of other inputs that can be read a second time.
@@ -23,13 +22,5 @@ impl<I: Inputs> Inputs for Again<'_, I> {
 
     fn folder(&self) -> Option<String> {
         self.inputs.folder()
-    }
-}
-
-impl<'t, I: Inputs> Asked<'t, '_, I> {
-    pub(crate) fn again(&self) -> Again<'t, I> {
-        Again {
-            inputs: self.inputs,
-        }
     }
 }

@@ -1,8 +1,8 @@
 //! Hints behind answers that say no.
 
 use crate::command_line::MOST_NODES;
+use crate::hints::Asked;
 use crate::hints::text::Hint;
-use crate::hints::{Asked, CommandEnd};
 use crate::request::Request;
 use command_base::Inputs;
 use resource_tool::Reached;
@@ -20,25 +20,26 @@ const NOTHING_MAPS: &[u8] = b"[]\n";
 const MORE: u32 = 10;
 
 impl<I: Inputs> Asked<'_, '_, I> {
-    /// Says what a person may try behind what a command wrote to its output.
+    /// Says what a person may try behind what a command wrote to its output, and how far it came.
     pub(crate) fn say_answer(
         &self,
         request: &Request<'_>,
-        ended: &CommandEnd<'_, '_>,
+        said: &[u8],
+        reached: Reached,
         hint: &mut Hint,
     ) {
-        let said = ended.said;
+        let is_limited = said == NODE_LIMIT;
         match request {
-            Request::Make(make) if said == NODE_LIMIT => {
-                say_limit(make.max_nodes, b" goals", ended.reached, hint);
+            Request::Make(make) if is_limited => {
+                say_limit(make.max_nodes, b" goals", reached, hint);
             }
-            Request::Diff(diff) if said == NODE_LIMIT => {
-                say_limit(diff.max_nodes, b" names", ended.reached, hint);
+            Request::Diff(diff) if is_limited => {
+                say_limit(diff.max_nodes, b" names", reached, hint);
             }
-            Request::Values(values) if said == NODE_LIMIT => {
-                say_limit(values.max_nodes, b" names", ended.reached, hint);
+            Request::Values(values) if is_limited => {
+                say_limit(values.max_nodes, b" names", reached, hint);
             }
-            Request::Unused(unused) if said == NODE_LIMIT => {
+            Request::Unused(unused) if is_limited => {
                 say_more_nodes(unused.max_nodes, b" names", hint);
             }
             Request::Make(_) if said.starts_with(COUNTEREXAMPLE) => {

@@ -1,10 +1,9 @@
 //! What is wrong with a box, and with the numbers of a device too.
 
-use crate::hints::locale_texts::say_locales;
 use crate::hints::members::{Member, coord_named, say_no_number, say_no_qualifier};
 use crate::hints::qualifiers::{meaning, say_takes};
 use crate::hints::text::Hint;
-use command_base::{Coord, LocaleRule};
+use command_base::Coord;
 use json_input::list_of;
 use serde_json::Value;
 use std::alloc::Global;
@@ -12,31 +11,7 @@ use std::alloc::Global;
 /// The names of the members of a range.
 const ENDS: &[&str] = &["from", "to"];
 
-/// Says what is wrong with the densities of a box.
-pub(crate) fn say_densities(value: &Value, hint: &mut Hint) {
-    say_outside(value, Coord::Density, hint);
-    if hint.is_empty() {
-        hint.say(
-            b"give the densities, as \"density\":[160,320] or \"density\":{\"from\":120,\"to\":640}",
-        );
-    }
-}
-
-/// Says what no device has at a qualifier, of a device or of a box.
-pub(crate) fn say_range(
-    alloc: Global,
-    value: &Value,
-    coord: Coord,
-    rule: LocaleRule,
-    hint: &mut Hint,
-) {
-    match coord {
-        Coord::Locale => say_locales(alloc, value.get(coord.name()), rule, hint),
-        _ => say_outside(value, coord, hint),
-    }
-}
-
-/// The same of a number.
+/// Says which number at a qualifier no device has, of a device or of a box.
 pub(crate) fn say_outside(value: &Value, coord: Coord, hint: &mut Hint) {
     if let Some(number) = outside_in(value, coord) {
         hint.say_quoted(coord.name());
@@ -50,26 +25,20 @@ pub(crate) fn say_outside(value: &Value, coord: Coord, hint: &mut Hint) {
 // The number of a device, or the first in a list or a range that no device has.
 fn outside_in(value: &Value, coord: Coord) -> Option<u64> {
     let value = value.get(coord.name())?;
-    match (value.as_u64(), list_of(value)) {
-        (Some(number), _) => Some(number),
-        (None, Some(items)) => outside_among(coord, items),
-        (None, None) => outside_in_range(coord, value),
+    if let Some(number) = value.as_u64() {
+        return Some(number);
     }
-}
-
-fn outside_among(coord: Coord, items: &[Value]) -> Option<u64> {
-    for item in items {
-        let number = item.as_u64()?;
-        if coord.is_outside(number) {
-            return Some(number);
+    if let Some(items) = list_of(value) {
+        for item in items {
+            let number = item.as_u64()?;
+            if coord.is_outside(number) {
+                return Some(number);
+            }
         }
+        return None;
     }
-    None
-}
-
-fn outside_in_range(coord: Coord, range: &Value) -> Option<u64> {
     for end in ENDS {
-        let number = range.get(*end)?.as_u64()?;
+        let number = value.get(*end)?.as_u64()?;
         if coord.is_outside(number) {
             return Some(number);
         }
@@ -90,39 +59,14 @@ pub(crate) fn say_box(alloc: Global, members: &[Member<'_>], hint: &mut Hint) {
     }
 }
 
-// What is wrong with the value of a qualifier.
+// What is wrong with the value of a qualifier: of a list the first item that is no number, with its place.
 fn say_set(alloc: Global, coord: Coord, value: &Value, hint: &mut Hint) {
-    match (coord, list_of(value)) {
-        (Coord::Locale, Some(items)) if are_texts(items) => {}
-        (Coord::Locale, _) => {
-            hint.say(b"\"locale\" takes a list of texts, as [\"es-MX\",\"de\"]");
-        }
-        (_, Some(items)) => say_items(alloc, coord, items, hint),
-        (_, None) if is_range(value) => say_ends(alloc, coord, value, hint),
-        (_, None) => say_no_set(coord, value, hint),
+    if let Coord::Locale = coord {
+        return say_texts(value, hint);
     }
-}
-
-fn are_texts(items: &[Value]) -> bool {
-    for item in items {
-        if !item.is_string() {
-            return false;
-        }
-    }
-    true
-}
-
-fn is_range(value: &Value) -> bool {
-    for end in ENDS {
-        if value.get(*end).is_none() {
-            return false;
-        }
-    }
-    true
-}
-
-// The first item that is no number, with its place.
-fn say_items(alloc: Global, coord: Coord, items: &[Value], hint: &mut Hint) {
+    let Some(items) = list_of(value) else {
+        return say_range(alloc, coord, value, hint);
+    };
     for (place, item) in items.iter().enumerate() {
         if item.as_u64().is_none() {
             hint.say(b"item ");
@@ -133,10 +77,27 @@ fn say_items(alloc: Global, coord: Coord, items: &[Value], hint: &mut Hint) {
     }
 }
 
-// The first end that is no number, or that there are other members too.
-fn say_ends(alloc: Global, coord: Coord, range: &Value, hint: &mut Hint) {
+// That a value is no list of texts, where it is none.
+fn say_texts(value: &Value, hint: &mut Hint) {
+    let items = list_of(value);
+    let mut are_texts = items.is_some();
+    for item in items.unwrap_or(&[]) {
+        are_texts = are_texts && item.is_string();
+    }
+    if !are_texts {
+        hint.say(b"\"locale\" takes a list of texts, as [\"es-MX\",\"de\"]");
+    }
+}
+
+// What is wrong with what is no list: of a range the first end that is no number, or that there are other members too.
+fn say_range(alloc: Global, coord: Coord, value: &Value, hint: &mut Hint) {
     for end in ENDS {
-        if let Some(value) = range.get(*end)
+        if value.get(*end).is_none() {
+            return say_no_set(coord, value, hint);
+        }
+    }
+    for end in ENDS {
+        if let Some(value) = value.get(*end)
             && value.as_u64().is_none()
         {
             hint.say_text(*end);

@@ -1,9 +1,7 @@
 //! What a file has where another was expected.
 
-use crate::hints::Asked;
 use crate::hints::kinds::Kind;
 use crate::hints::text::{Hint, first_line};
-use command_base::Inputs;
 
 /// What a file was expected to have.
 #[derive(Clone, Copy)]
@@ -33,16 +31,7 @@ enum Content {
 /// The most bytes of a line that a hint repeats.
 const MOST_BYTES: usize = 100;
 
-impl<I: Inputs> Asked<'_, '_, I> {
-    /// Says what a file has instead.
-    pub(crate) fn say_content(&self, expected: Expected, path: &str, hint: &mut Hint) {
-        if let Some(bytes) = self.inputs.read_again(path) {
-            say_instead(expected, path, &bytes, hint);
-        }
-    }
-}
-
-/// The same of the bytes of a file.
+/// Says what a file has instead, which has these bytes.
 pub(crate) fn say_instead(expected: Expected, path: &str, bytes: &[u8], hint: &mut Hint) {
     match (expected, content_of(bytes)) {
         (Expected::Json(Kind::Device), Content::Config) => {
@@ -51,7 +40,14 @@ pub(crate) fn say_instead(expected: Expected, path: &str, bytes: &[u8], hint: &m
             hint.say(b")\"");
         }
         (Expected::Json(Kind::Certificate), Content::NoCertificate) => {
-            say_printed(path, bytes, hint);
+            if let Some(line) = first_line(bytes)
+                && line.len() <= MOST_BYTES
+            {
+                hint.say(b"make printed no certificate into ");
+                hint.say_text(path);
+                hint.say(b" but: ");
+                hint.say_text(line);
+            }
         }
         (expected, content) => {
             if let Some(said) = said_of(expected, content) {
@@ -84,18 +80,6 @@ fn said_of<'a>(expected: Expected, content: Content) -> Option<&'a [u8]> {
     }
 }
 
-// What `make` printed in place of a certificate.
-fn say_printed(path: &str, bytes: &[u8], hint: &mut Hint) {
-    if let Some(line) = first_line(bytes)
-        && line.len() <= MOST_BYTES
-    {
-        hint.say(b"make printed no certificate into ");
-        hint.say_text(path);
-        hint.say(b" but: ");
-        hint.say_text(line);
-    }
-}
-
 fn content_of(bytes: &[u8]) -> Content {
     if bytes.starts_with(b"PK") {
         Content::Zip
@@ -108,14 +92,10 @@ fn content_of(bytes: &[u8]) -> Content {
     } else if bytes.starts_with(b"counter goal ") || bytes.starts_with(b"node limit") {
         Content::NoCertificate
     } else {
-        content_of_text(bytes)
-    }
-}
-
-fn content_of_text(bytes: &[u8]) -> Content {
-    match bytes.trim_ascii_start().first() {
-        None => Content::Nothing,
-        Some(b'{' | b'[') => Content::Json,
-        Some(_) => Content::Other,
+        match bytes.trim_ascii_start().first() {
+            None => Content::Nothing,
+            Some(b'{' | b'[') => Content::Json,
+            Some(_) => Content::Other,
+        }
     }
 }

@@ -1,6 +1,7 @@
 //! Goals that are others than those of a certificate.
 
 use crate::hints::Asked;
+use crate::hints::again::Again;
 use crate::hints::goal_words::{GoalWords, goal_words};
 use crate::hints::text::Hint;
 use command_base::Inputs;
@@ -9,22 +10,21 @@ use resource_tool::Check;
 impl<I: Inputs> Asked<'_, '_, I> {
     /// Says where the goals that are asked for and those of the certificate differ first, and whether it is their order alone.
     pub(crate) fn say_goals(&self, check: &Check<'_>, hint: &mut Hint) {
-        let Some(words) = goal_words(self.alloc, &self.again(), check) else {
+        let again = Again {
+            inputs: self.inputs,
+        };
+        let Some(words) = goal_words(self.alloc, &again, check) else {
             return;
         };
         say_difference(check.certificate, &words, hint);
         if !hint.is_empty() {
             say_why(words, hint);
-            say_show(check, hint);
+            hint.say(b": restool show ");
+            hint.say_text(check.layers);
+            hint.say(b" ");
+            hint.say_text(check.certificate);
         }
     }
-}
-
-fn say_show(check: &Check<'_>, hint: &mut Hint) {
-    hint.say(b": restool show ");
-    hint.say_text(check.layers);
-    hint.say(b" ");
-    hint.say_text(check.certificate);
 }
 
 fn say_difference(path: &str, words: &GoalWords, hint: &mut Hint) {

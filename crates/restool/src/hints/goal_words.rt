@@ -1,7 +1,7 @@
 //! The goals of a check in words.
 
 use answer_text::StackNames;
-use command_base::{Cert, CertGoal, Goal, Inputs};
+use command_base::{CertGoal, Goal, Inputs};
 use resource_tool::{Check, CheckFiles, OpenCheck, OpenedCert, write_named_words};
 use std::alloc::Global;
 
@@ -48,7 +48,7 @@ fn words_of_goals(alloc: Global, opened: &OpenedCert<'_>, goals: &[Goal]) -> Opt
         asked: Vec::new(alloc),
         certified: Vec::new(alloc),
     };
-    match push_both(alloc, &names, goals, &opened.certificate, &mut words) {
+    match push_both(alloc, &names, goals, &opened.certificate.goals, &mut words) {
         Some(()) => Some(words),
         None => None,
     }
@@ -58,33 +58,14 @@ fn push_both(
     alloc: Global,
     names: &StackNames<'_, '_>,
     goals: &[Goal],
-    certificate: &Cert,
+    certified_goals: &[CertGoal],
     words: &mut GoalWords,
 ) -> Option<()> {
-    push_asked(alloc, names, goals, &mut words.asked)?;
-    push_certified(alloc, names, &certificate.goals, &mut words.certified)
-}
-
-fn push_asked(
-    alloc: Global,
-    names: &StackNames<'_, '_>,
-    goals: &[Goal],
-    words: &mut Vec<String>,
-) -> Option<()> {
     for goal in goals {
-        push_words(alloc, names, goal, words)?;
+        push_words(alloc, names, goal, &mut words.asked)?;
     }
-    Some(())
-}
-
-fn push_certified(
-    alloc: Global,
-    names: &StackNames<'_, '_>,
-    goals: &[CertGoal],
-    words: &mut Vec<String>,
-) -> Option<()> {
-    for certified in goals {
-        push_words(alloc, names, &certified.goal, words)?;
+    for certified in certified_goals {
+        push_words(alloc, names, &certified.goal, &mut words.certified)?;
     }
     Some(())
 }

@@ -1,15 +1,18 @@
 //! JSON texts that are not as they have to be.
 
 use crate::hints::Asked;
-use crate::hints::boxes::{say_box, say_densities, say_outside, say_range};
+use crate::hints::boxes::{say_box, say_outside};
 use crate::hints::content::{Expected, say_instead};
-use crate::hints::devices::{say_device, say_line};
-use crate::hints::kinds::{JsonFile, Kind, kind_of, say_kind};
+use crate::hints::devices::say_device;
+use crate::hints::kinds::{JsonFile, Kind, Wrong, kind_of, say_kind};
 use crate::hints::layers::say_layers;
+use crate::hints::locale_texts::say_locales;
 use crate::hints::members::{Member, members_of};
 use crate::hints::request_parts::RequestParts;
 use crate::hints::text::Hint;
-use command_base::{BoxFault, Coord, DeviceFault, Inputs, LayersFault, Side, ToolFault};
+use command_base::{
+    BoxFault, Coord, DeviceFault, Inputs, LayersFault, LocaleRule, Side, ToolFault,
+};
 use config_words::is_printed;
 use json_input::read_value;
 use serde_json::Value;
@@ -21,18 +24,17 @@ impl<I: Inputs> Asked<'_, '_, I> {
         let Some(file) = file_with(&self.parts, fault) else {
             return self.say_layer(fault, hint);
         };
-        match file.expected {
-            Kind::Device if is_printed(file.path) => say_line(fault, hint),
-            _ => self.say_json(file, fault, hint),
+        if file.expected == Kind::Device && is_printed(file.path) {
+            if let Wrong::DeviceDensity = file.wrong {
+                hint.say(b"add the density, as xhdpi or 560dpi");
+            }
+            return;
         }
-    }
-
-    fn say_json(&self, file: JsonFile<'_>, fault: ToolFault, hint: &mut Hint) {
         let Some(bytes) = self.inputs.read_again(file.path) else {
             return;
         };
         match read_value(self.alloc, &bytes) {
-            Ok(value) => say_value(self.alloc, &self.parts, file, &value, fault, hint),
+            Ok(value) => say_value(self.alloc, &self.parts, file, &value, hint),
             Err(_) => say_instead(Expected::Json(file.expected), file.path, &bytes, hint),
         }
     }
@@ -48,10 +50,23 @@ fn file_with<'a>(parts: &RequestParts<'_, 'a>, fault: ToolFault) -> Option<JsonF
         ToolFault::Certificate(_) => (Kind::Certificate, parts.certificate),
         _ => return None,
     };
-    match path {
-        Some(path) => Some(JsonFile { expected, path }),
-        None => None,
-    }
+    let wrong = match fault {
+        ToolFault::Layers(LayersFault::Shape) | ToolFault::SideLayers(_, LayersFault::Shape) => {
+            Wrong::Layers
+        }
+        ToolFault::Device(DeviceFault::Shape) => Wrong::Device,
+        ToolFault::Device(DeviceFault::Density) => Wrong::DeviceDensity,
+        ToolFault::Box(BoxFault::Shape) => Wrong::Box,
+        ToolFault::Box(BoxFault::Density) => Wrong::BoxDensity,
+        ToolFault::Device(DeviceFault::FieldRange(coord))
+        | ToolFault::Box(BoxFault::FieldRange(coord)) => Wrong::Range(coord),
+        _ => Wrong::Other,
+    };
+    Some(JsonFile {
+        expected,
+        path: path?,
+        wrong,
+    })
 }
 
 // That a text is of another kind than was expected, or else what is wrong with it.
@@ -60,37 +75,39 @@ fn say_value(
     parts: &RequestParts<'_, '_>,
     file: JsonFile<'_>,
     value: &Value,
-    fault: ToolFault,
     hint: &mut Hint,
 ) {
     let members = members_of(alloc, value);
     let members = members.as_deref().unwrap_or(&[]);
     match kind_of(value, members) {
         Some(kind) if kind != file.expected => say_kind(parts.order, file, kind, hint),
-        _ => say_wrong(alloc, parts, value, members, fault, hint),
+        _ => say_wrong(alloc, parts.rule, value, members, file.wrong, hint),
     }
 }
 
 fn say_wrong(
     alloc: Global,
-    parts: &RequestParts<'_, '_>,
+    rule: LocaleRule,
     value: &Value,
     members: &[Member<'_>],
-    fault: ToolFault,
+    wrong: Wrong,
     hint: &mut Hint,
 ) {
-    match fault {
-        ToolFault::Layers(LayersFault::Shape) | ToolFault::SideLayers(_, LayersFault::Shape) => {
-            say_layers(alloc, value, hint);
+    match wrong {
+        Wrong::Layers => say_layers(alloc, value, hint),
+        Wrong::Device => say_device(alloc, members, hint),
+        Wrong::DeviceDensity => say_outside(value, Coord::Density, hint),
+        Wrong::Box => say_box(alloc, members, hint),
+        Wrong::BoxDensity => {
+            say_outside(value, Coord::Density, hint);
+            if hint.is_empty() {
+                hint.say(
+                    b"give the densities, as \"density\":[160,320] or \"density\":{\"from\":120,\"to\":640}",
+                );
+            }
         }
-        ToolFault::Device(DeviceFault::Shape) => say_device(alloc, members, hint),
-        ToolFault::Device(DeviceFault::Density) => say_outside(value, Coord::Density, hint),
-        ToolFault::Box(BoxFault::Shape) => say_box(alloc, members, hint),
-        ToolFault::Box(BoxFault::Density) => say_densities(value, hint),
-        ToolFault::Device(DeviceFault::FieldRange(coord))
-        | ToolFault::Box(BoxFault::FieldRange(coord)) => {
-            say_range(alloc, value, coord, parts.rule, hint);
-        }
-        _ => {}
+        Wrong::Range(Coord::Locale) => say_locales(alloc, value, rule, hint),
+        Wrong::Range(coord) => say_outside(value, coord, hint),
+        Wrong::Other => {}
     }
 }

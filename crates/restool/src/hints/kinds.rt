@@ -3,6 +3,7 @@
 use crate::hints::devices::is_fit;
 use crate::hints::members::{Member, coord_named};
 use crate::hints::text::Hint;
+use command_base::Coord;
 use json_input::list_of;
 use serde_json::Value;
 
@@ -24,55 +25,59 @@ impl Kind {
             Kind::Certificate => b"certificate",
         }
     }
-
-    // How to make a text of another kind into this one, where that is no matter of the order of words.
-    fn form_for<'a>(self, other: Kind) -> &'a [u8] {
-        match (self, other) {
-            (Kind::Box, Kind::Device) =>
-                b"; a box has a list or a range for each qualifier, as \"density\":[160,320]",
-            (Kind::Device, Kind::Box) =>
-                b"; a device has one value for each qualifier, as \"density\":320",
-            _ => b"",
-        }
-    }
 }
 
-/// A JSON text, and of which kind it was expected to be.
+/// What is wrong with a JSON text of the kind that was expected.
+#[derive(Clone, Copy)]
+pub(crate) enum Wrong {
+    Layers,
+    Device,
+    DeviceDensity,
+    Box,
+    BoxDensity,
+    /// No device has what stands at this qualifier.
+    Range(Coord),
+    Other,
+}
+
+/// A JSON text, of which kind it was expected to be, and what is wrong with it.
 #[derive(Clone, Copy)]
 pub(crate) struct JsonFile<'a> {
     pub expected: Kind,
     pub path: &'a str,
+    pub wrong: Wrong,
 }
 
-/// Says that a file is of another kind.
+/// Says that a file is of another kind, and how to make it into what was expected, where that is no matter of the order of
+/// words.
 pub(crate) fn say_kind(order: &[u8], file: JsonFile<'_>, kind: Kind, hint: &mut Hint) {
     hint.say_text(file.path);
     hint.say(b" is a ");
     hint.say(kind.name());
     hint.say(b", and no ");
     hint.say(file.expected.name());
-    hint.say(file.expected.form_for(kind));
+    match (file.expected, kind) {
+        (Kind::Box, Kind::Device) => {
+            hint.say(b"; a box has a list or a range for each qualifier, as \"density\":[160,320]");
+        }
+        (Kind::Device, Kind::Box) => {
+            hint.say(b"; a device has one value for each qualifier, as \"density\":320");
+        }
+        _ => {}
+    }
     hint.say(order);
 }
 
-/// The kind of a JSON text, which has these members.
+/// The kind of a JSON text, which has these members. A device has a number or a text for each qualifier, a box a list or a
+/// range.
 pub(crate) fn kind_of(value: &Value, members: &[Member<'_>]) -> Option<Kind> {
     if let Some(items) = list_of(value) {
-        return kind_of_list(items);
+        let _table = items.first()?.get("table")?;
+        return Some(Kind::Layers);
     }
-    match value.get("goals") {
-        Some(_) => Some(Kind::Certificate),
-        None => kind_of_members(members),
+    if value.get("goals").is_some() {
+        return Some(Kind::Certificate);
     }
-}
-
-fn kind_of_list(items: &[Value]) -> Option<Kind> {
-    let _table = items.first()?.get("table")?;
-    Some(Kind::Layers)
-}
-
-// A device has a number or a text for each qualifier, a box a list or a range.
-fn kind_of_members(members: &[Member<'_>]) -> Option<Kind> {
     let mut has_values = false;
     let mut has_sets = false;
     for member in members {

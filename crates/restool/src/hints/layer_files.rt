@@ -1,7 +1,7 @@
 //! Files of layers that are not as they have to be.
 
 use crate::hints::Asked;
-use crate::hints::content::Expected;
+use crate::hints::content::{Expected, say_instead};
 use crate::hints::text::{Hint, text_of};
 use command_base::{
     ApkFault, Inputs, LayerParts, MapFault, STANDARD_INPUT, Side, TableFault, ToolFault,
@@ -28,58 +28,56 @@ struct LayerAt {
 impl<I: Inputs> Asked<'_, '_, I> {
     /// Says what is wrong where there is a fault of a layer, or of a table that is read alone.
     pub(crate) fn say_layer(&self, fault: ToolFault, hint: &mut Hint) {
-        if let Some(wrong) = wrong_by(fault)
-            && let Some(path) = self.path_of(layer_with(fault), wrong)
-        {
-            self.say_file(wrong, path.as_str(), hint);
-        }
-    }
-
-    fn say_file(&self, wrong: Wrong, path: &str, hint: &mut Hint) {
+        let Some(wrong) = wrong_by(fault) else {
+            return;
+        };
+        let Some(path) = self.path_of(layer_with(fault), wrong) else {
+            return;
+        };
         match wrong {
-            Wrong::No(expected) => self.say_content(expected, path, hint),
+            Wrong::No(expected) => {
+                if let Some(bytes) = self.inputs.read_again(path.as_str()) {
+                    say_instead(expected, path.as_str(), &bytes, hint);
+                }
+            }
             Wrong::Compressed => {
                 hint.say(b"unpack its table: unzip -p ");
-                hint.say_text(path);
+                hint.say_text(path.as_str());
                 hint.say(b" resources.arsc >a.arsc");
             }
         }
     }
 
-    // The path of the file.
+    // The path of the file; of a table with a word of its own where this is a file.
     fn path_of(&self, at: LayerAt, wrong: Wrong) -> Option<String> {
-        match self.parts.layers(at.side) {
-            Some(word) => path_among(self.alloc, &self.listed_paths(word)?, at.place, wrong),
-            None => own_path(self.alloc, self.parts.table(at.place)?),
+        if let Some(word) = self.parts.layers(at.side) {
+            return path_among(self.alloc, &self.listed_paths(word)?, at.place, wrong);
         }
+        let word = self.parts.table(at.place)?;
+        if word == STANDARD_INPUT {
+            return None;
+        }
+        text_of(self.alloc, &[word])
     }
 }
 
 fn wrong_by(fault: ToolFault) -> Option<Wrong> {
     match fault {
         ToolFault::Apk(fault) | ToolFault::LayerApk(_, fault) | ToolFault::SideApk(_, _, fault) =>
-            wrong_with_apk(fault),
+            match fault {
+                ApkFault::NotZip => Some(Wrong::No(Expected::Apk)),
+                ApkFault::Compressed => Some(Wrong::Compressed),
+                _ => None,
+            },
         ToolFault::Table(fault)
         | ToolFault::LayerTable(_, fault)
-        | ToolFault::SideTable(_, _, fault) => wrong_with_table(fault),
+        | ToolFault::SideTable(_, _, fault) => match fault {
+            TableFault::NotTable | TableFault::Chunk(_) => Some(Wrong::No(Expected::Table)),
+            _ => None,
+        },
         ToolFault::LayerMap(_, MapFault::Syntax) | ToolFault::SideMap(_, _, MapFault::Syntax) => {
             Some(Wrong::No(Expected::Map))
         }
-        _ => None,
-    }
-}
-
-fn wrong_with_apk(fault: ApkFault) -> Option<Wrong> {
-    match fault {
-        ApkFault::NotZip => Some(Wrong::No(Expected::Apk)),
-        ApkFault::Compressed => Some(Wrong::Compressed),
-        _ => None,
-    }
-}
-
-fn wrong_with_table(fault: TableFault) -> Option<Wrong> {
-    match fault {
-        TableFault::NotTable | TableFault::Chunk(_) => Some(Wrong::No(Expected::Table)),
         _ => None,
     }
 }
@@ -114,14 +112,5 @@ fn path_among(
         (Wrong::No(Expected::Map), Some(map)) => text_of(alloc, &[map.as_str()]),
         (Wrong::No(Expected::Map), None) => None,
         _ => text_of(alloc, &[table.as_str()]),
-    }
-}
-
-// That of a table with a word of its own, where this is a file.
-fn own_path(alloc: Global, word: &str) -> Option<String> {
-    if word == STANDARD_INPUT {
-        None
-    } else {
-        text_of(alloc, &[word])
     }
 }

@@ -1,12 +1,10 @@
 //! Lists of layers, and the paths in them.
 
 use crate::hints::Asked;
-use crate::hints::members::{Member, is_short, members_of};
+use crate::hints::members::{is_short, members_of};
 use crate::hints::nearest::Nearest;
 use crate::hints::text::{Hint, text_of};
-use command_base::{
-    Inputs, LayerList, LayerParts, ListedLayer, Side, is_list_word, layers_in_word,
-};
+use command_base::{Inputs, LayerList, LayerParts, Side, is_list_word, layers_in_word};
 use json_input::list_of;
 use serde_json::Value;
 use std::alloc::Global;
@@ -14,8 +12,8 @@ use std::alloc::Global;
 /// The names of the members of an item: of its table, and of an overlay's id map.
 const MEMBERS: &[&str] = &["table", "map"];
 
-/// The stacks whose lists may have a path.
-const SIDES: &[Side] = &[Side::Old, Side::New];
+/// The stacks that a request may have.
+pub(crate) const SIDES: &[Side] = &[Side::Old, Side::New];
 
 impl<I: Inputs> Asked<'_, '_, I> {
     /// The paths of the layers of a word: of each layer its table and, where it is written, its id map.
@@ -41,8 +39,13 @@ impl<I: Inputs> Asked<'_, '_, I> {
             Some(folder) => hint.say_text(folder.as_str()),
             None => hint.say(b"the folder where restool runs"),
         }
-        if let Some((folder, _name)) = list.rsplit_once('/') {
-            self.say_beside(folder, path, hint);
+        // The same path may be right in the folder of the list, where a file lies there.
+        if let Some((folder, _name)) = list.rsplit_once('/')
+            && let Some(there) = text_of(self.alloc, &[folder, "/", path])
+            && self.inputs.read_again(there.as_str()).is_some()
+        {
+            hint.say(b": write ");
+            hint.say_text(there.as_str());
         }
     }
 
@@ -56,16 +59,6 @@ impl<I: Inputs> Asked<'_, '_, I> {
         }
         None
     }
-
-    // That the same path is right in the folder of the list, where a file lies there.
-    fn say_beside(&self, folder: &str, path: &str, hint: &mut Hint) {
-        if let Some(there) = text_of(self.alloc, &[folder, "/", path])
-            && self.inputs.read_again(there.as_str()).is_some()
-        {
-            hint.say(b": write ");
-            hint.say_text(there.as_str());
-        }
-    }
 }
 
 fn paths_in_word(alloc: Global, word: &str) -> Option<Vec<LayerParts<String>>> {
@@ -73,22 +66,13 @@ fn paths_in_word(alloc: Global, word: &str) -> Option<Vec<LayerParts<String>>> {
         return None;
     };
     let mut paths = Vec::new(alloc);
-    push_paths(alloc, &layers, &mut paths)?;
-    Some(paths)
-}
-
-fn push_paths(
-    alloc: Global,
-    layers: &[ListedLayer<'_>],
-    paths: &mut Vec<LayerParts<String>>,
-) -> Option<()> {
-    for layer in layers {
+    for layer in &layers {
         let path = text_of(alloc, &[layer.path])?;
         if paths.push((path, None)).is_err() {
             return None;
         }
     }
-    Some(())
+    Some(paths)
 }
 
 fn have_path(layers: &[LayerParts<String>], path: &str) -> bool {
@@ -121,44 +105,32 @@ fn say_item(alloc: Global, item: &Value, hint: &mut Hint) {
     let Some(members) = members_of(alloc, item) else {
         return;
     };
-    match wrong_among(&members) {
-        Some(member) => say_member(alloc, member.name, hint),
-        None if item.get("table").is_some() => {}
-        None => hint.say(b" has no \"table\""),
-    }
-}
-
-// The first member that is not as it has to be.
-fn wrong_among<'v>(members: &[Member<'v>]) -> Option<Member<'v>> {
-    for member in members {
+    for member in &members {
         if !MEMBERS.contains(&member.name) || !member.value.is_string() {
-            return Some(*member);
+            return say_member(alloc, member.name, hint);
         }
     }
-    None
-}
-
-fn say_member(alloc: Global, name: &str, hint: &mut Hint) {
-    if MEMBERS.contains(&name) {
-        say_name(name, hint);
-        hint.say(b" takes a text, the path of a file");
-    } else if is_short(name) {
-        say_other_name(alloc, name, hint);
+    if item.get("table").is_none() {
+        hint.say(b" has no \"table\"");
     }
 }
 
-fn say_name(name: &str, hint: &mut Hint) {
-    hint.say(b": ");
-    hint.say_quoted(name);
-}
-
-// A member of another name.
-fn say_other_name(alloc: Global, name: &str, hint: &mut Hint) {
-    let mut nearest = Nearest::new(name);
+// What is said of a member that is no text, or has another name.
+fn say_member(alloc: Global, name: &str, hint: &mut Hint) {
+    if MEMBERS.contains(&name) {
+        hint.say(b": ");
+        hint.say_quoted(name);
+        return hint.say(b" takes a text, the path of a file");
+    }
+    if !is_short(name) {
+        return;
+    }
+    let mut nearest = Nearest::to(name, name);
     for member in MEMBERS {
         nearest.offer(alloc, *member, *member);
     }
-    say_name(name, hint);
+    hint.say(b": ");
+    hint.say_quoted(name);
     match nearest.found {
         Some(_) => nearest.say(b": did you mean ", hint),
         None => hint.say(b" is neither table nor map"),

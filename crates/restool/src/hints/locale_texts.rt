@@ -2,15 +2,15 @@
 
 use crate::hints::members::is_short;
 use crate::hints::text::Hint;
-use command_base::LocaleRule;
+use command_base::{Coord, LocaleRule};
 use json_input::list_of;
 use locales::read_locale;
 use serde_json::Value;
 use std::alloc::Global;
 
 /// Says what is wrong with the text of a device, or with the first of the list of a box.
-pub(crate) fn say_locales(alloc: Global, value: Option<&Value>, rule: LocaleRule, hint: &mut Hint) {
-    let Some(value) = value else {
+pub(crate) fn say_locales(alloc: Global, value: &Value, rule: LocaleRule, hint: &mut Hint) {
+    let Some(value) = value.get(Coord::Locale.name()) else {
         return;
     };
     if let Some(text) = value.as_str() {
@@ -57,40 +57,32 @@ fn say_tag(tag: &str, text: &str, rule: LocaleRule, hint: &mut Hint) {
     }
 }
 
-// The same subtags as texts of locales have them: es_MX and es-rMX are es-MX, b+sr+Latn is sr-Latn.
+// The same subtags as texts of locales have them, a language, and behind it a script or a region: es_MX and es-rMX are es-MX,
+// b+sr+Latn is sr-Latn.
 fn say_subtags(text: &str, tag: &mut Hint) {
     for subtag in text.split(['-', '_', '+']) {
         match subtag.as_bytes() {
             b"" | b"b" => {}
-            subtag => say_subtag(subtag, tag),
+            language if tag.is_empty() => say_cased(language, false, tag),
+            subtag => {
+                tag.say(b"-");
+                say_cased(region_behind_r(subtag), true, tag);
+            }
         }
     }
-}
-
-// A language, or behind it a script or a region.
-fn say_subtag(subtag: &[u8], tag: &mut Hint) {
-    if tag.is_empty() {
-        return say_cased(subtag, false, tag);
-    }
-    tag.say(b"-");
-    say_cased(region_behind_r(subtag), true, tag);
 }
 
 // A region, where it stands behind an `r`, as in folders of resources.
 fn region_behind_r(subtag: &[u8]) -> &[u8] {
-    match subtag.strip_prefix(b"r") {
-        Some(region) if is_region(region) => region,
-        _ => subtag,
-    }
-}
-
-fn is_region(letters: &[u8]) -> bool {
-    for letter in letters {
+    let Some(region) = subtag.strip_prefix(b"r") else {
+        return subtag;
+    };
+    for letter in region {
         if !letter.is_ascii_uppercase() && !letter.is_ascii_digit() {
-            return false;
+            return subtag;
         }
     }
-    true
+    region
 }
 
 // A script, of four letters, has a capital at its begin alone.

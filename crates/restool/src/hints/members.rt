@@ -49,7 +49,7 @@ pub(crate) fn say_no_qualifier(alloc: Global, name: &str, hint: &mut Hint) {
     if !is_short(name) {
         return;
     }
-    let mut nearest = Nearest::new(name);
+    let mut nearest = Nearest::to(name, name);
     for coord in &Coord::ALL {
         nearest.offer(alloc, coord.name(), coord.name());
     }
@@ -61,31 +61,24 @@ pub(crate) fn say_no_qualifier(alloc: Global, name: &str, hint: &mut Hint) {
     }
 }
 
-/// Says of a value that it is no number, at a qualifier that takes one. Of a long text nothing is said.
+/// Says of a value that it is no number, at a qualifier that takes one: of a word of resource folders which it is. Of a long
+/// text nothing is said.
 pub(crate) fn say_no_number(alloc: Global, coord: Coord, value: &Value, hint: &mut Hint) {
-    match value.as_str() {
-        Some(word) if is_short(word) => say_word(alloc, coord, word, hint),
-        Some(_) => hint.clear(),
-        None => say_takes(coord, b" takes a whole number: ", hint),
+    let Some(word) = value.as_str() else {
+        return say_takes(coord, b" takes a whole number: ", hint);
+    };
+    if !is_short(word) {
+        return hint.clear();
     }
-}
-
-// A word of resource folders, or else another text.
-fn say_word(alloc: Global, coord: Coord, word: &str, hint: &mut Hint) {
-    match number_of_word(alloc, coord, word) {
-        0 => say_no_word(coord, word, hint),
-        number => {
-            hint.say_quoted(word);
-            hint.say(b" is ");
-            hint.say_number(u64::from(number));
-            hint.say(b" at ");
-            hint.say_quoted(coord.name());
-        }
+    let number = number_of_word(alloc, coord, word);
+    if number != 0 {
+        hint.say_quoted(word);
+        hint.say(b" is ");
+        hint.say_number(u64::from(number));
+        hint.say(b" at ");
+        return hint.say_quoted(coord.name());
     }
-}
-
-fn say_no_word(coord: Coord, text: &str, hint: &mut Hint) {
-    match text.parse::<u32>() {
+    match word.parse::<u32>() {
         Ok(number) => {
             hint.say(b"write ");
             hint.say_number(u64::from(number));

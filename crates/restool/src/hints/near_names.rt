@@ -47,15 +47,6 @@ impl<'w> Parts<'w> {
     fn is_of_all(self) -> bool {
         self.entry_name == ALL
     }
-
-    // Whether an id is of the package that is wanted, by its name or its number; without one, of the app.
-    fn wants(self, id: &str, package: Option<&str>) -> bool {
-        let number = id.get(..PACKAGE_SIZE);
-        match self.package {
-            Some(wanted) => package == Some(wanted) || number == Some(wanted),
-            None => number == Some(APP),
-        }
-    }
 }
 
 /// The names that are nearest to one that is wanted.
@@ -67,36 +58,25 @@ struct NearNames<'w, 'n> {
     others: Nearest<'w, 'n>,
 }
 
-impl<'w, 'n> NearNames<'w, 'n> {
-    fn to(wanted: Parts<'w>) -> NearNames<'w, 'n> {
-        let nearest = if wanted.is_of_all() {
-            Nearest::of_part(wanted.name, wanted.type_name)
-        } else {
-            Nearest::new(wanted.name)
-        };
-        NearNames {
-            wanted,
-            own: nearest,
-            others: nearest,
-        }
-    }
-
+impl<'n> NearNames<'_, 'n> {
     // Offers what a line of `restool ids` has.
     fn offer_line(&mut self, alloc: Global, line: &'n str) {
         let Some((id, word)) = named_in(line) else {
             return;
         };
-        if let Some(parts) = Parts::of(word) {
-            let is_own = self.wanted.wants(id, parts.package);
-            self.offer(alloc, is_own, parts, word);
-        }
-    }
-
-    fn offer(&mut self, alloc: Global, is_own: bool, parts: Parts<'n>, word: &'n str) {
+        let Some(parts) = Parts::of(word) else {
+            return;
+        };
         let text = if self.wanted.is_of_all() {
             parts.type_name
         } else {
             parts.name
+        };
+        // It is of the package that is wanted, by its name or its number; without one, of the app.
+        let number = id.get(..PACKAGE_SIZE);
+        let is_own = match self.wanted.package {
+            Some(wanted) => parts.package == Some(wanted) || number == Some(wanted),
+            None => number == Some(APP),
         };
         if is_own {
             self.own.offer(alloc, text, word);
@@ -106,9 +86,8 @@ impl<'w, 'n> NearNames<'w, 'n> {
     }
 
     // Of the package that is wanted any, else the nearest.
-    fn found(self) -> Option<&'n str> {
-        let own_first = self.wanted.package.is_some() || self.own.is_as_near_as(&self.others);
-        if own_first {
+    fn found(&self) -> Option<&'n str> {
+        if self.wanted.package.is_some() || self.own.is_as_near_as(&self.others) {
             self.own.found.or(self.others.found)
         } else {
             self.others.found.or(self.own.found)
@@ -122,40 +101,40 @@ impl<I: Inputs> Asked<'_, '_, I> {
         let Some(wanted) = Parts::of(word.strip_prefix('@').unwrap_or(word)) else {
             return;
         };
+        let (Some(old), Some(new)) = (self.parts.layers(Side::Old), self.parts.layers(Side::New))
+        else {
+            return;
+        };
         let mut printed = Vec::new(self.alloc);
-        if is_short(wanted.name) && self.print_all_ids(&mut printed) {
+        if is_short(wanted.name)
+            && print_ids(self.alloc, self.inputs, old, &mut printed)
+            && (new == old || print_ids(self.alloc, self.inputs, new, &mut printed))
+        {
             say_near(self.alloc, wanted, &printed, hint);
         }
     }
-
-    // Prints the ids of all base layers.
-    fn print_all_ids(&self, printed: &mut Vec<u8>) -> bool {
-        match (self.parts.layers(Side::Old), self.parts.layers(Side::New)) {
-            (Some(old), Some(new)) => {
-                self.print_ids(old, printed) && (new == old || self.print_ids(new, printed))
-            }
-            _ => false,
-        }
-    }
-
-    fn print_ids(&self, layers: &str, printed: &mut Vec<u8>) -> bool {
-        print_ids(self.alloc, self.inputs, layers, printed)
-    }
 }
 
+// Which name of those that `restool ids` prints is nearest.
 fn say_near(alloc: Global, wanted: Parts<'_>, printed: &[u8], hint: &mut Hint) {
-    let mut near = NearNames::to(wanted);
-    if let Ok(text) = str::from_utf8(printed) {
-        offer_lines(alloc, text, &mut near);
+    let Ok(text) = str::from_utf8(printed) else {
+        return;
+    };
+    let nearest = if wanted.is_of_all() {
+        Nearest::to(wanted.name, wanted.type_name)
+    } else {
+        Nearest::to(wanted.name, wanted.name)
+    };
+    let mut near = NearNames {
+        wanted,
+        own: nearest,
+        others: nearest,
+    };
+    for line in text.lines() {
+        near.offer_line(alloc, line);
     }
     if let Some(found) = near.found() {
         say_found(wanted, found, hint);
-    }
-}
-
-fn offer_lines<'n>(alloc: Global, text: &'n str, near: &mut NearNames<'_, 'n>) {
-    for line in text.lines() {
-        near.offer_line(alloc, line);
     }
 }
 
@@ -163,21 +142,19 @@ fn offer_lines<'n>(alloc: Global, text: &'n str, near: &mut NearNames<'_, 'n>) {
 fn say_found(wanted: Parts<'_>, found: &str, hint: &mut Hint) {
     hint.say(b"did you mean ");
     match Parts::of(found) {
-        Some(parts) if wanted.is_of_all() => say_type(wanted, parts, hint),
+        Some(parts) if wanted.is_of_all() => {
+            if let Some(package) = parts.package
+                && wanted.package.is_some()
+            {
+                hint.say_text(package);
+                hint.say(b":");
+            }
+            hint.say_text(parts.type_name);
+            hint.say(b"/*");
+        }
         _ => hint.say_text(found),
     }
     hint.say(b"?");
-}
-
-fn say_type(wanted: Parts<'_>, found: Parts<'_>, hint: &mut Hint) {
-    if let Some(package) = found.package
-        && wanted.package.is_some()
-    {
-        hint.say_text(package);
-        hint.say(b":");
-    }
-    hint.say_text(found.type_name);
-    hint.say(b"/*");
 }
 
 /// Says which resource has the entry that a word is, where that has no type.
@@ -200,14 +177,10 @@ pub(crate) fn say_bare<I: Inputs>(
 }
 
 fn say_entry(alloc: Global, printed: &[u8], word: &str, hint: &mut Hint) {
-    let mut nearest = Nearest::new(word);
-    if let Ok(text) = str::from_utf8(printed) {
-        offer_entries(alloc, text, &mut nearest);
-    }
-    nearest.say(b"a name has its type before it: did you mean ", hint);
-}
-
-fn offer_entries<'n>(alloc: Global, text: &'n str, nearest: &mut Nearest<'_, 'n>) {
+    let Ok(text) = str::from_utf8(printed) else {
+        return;
+    };
+    let mut nearest = Nearest::to(word, word);
     for line in text.lines() {
         if let Some((_id, name)) = named_in(line)
             && let Some((_type_name, entry_name)) = name.split_once('/')
@@ -215,6 +188,7 @@ fn offer_entries<'n>(alloc: Global, text: &'n str, nearest: &mut Nearest<'_, 'n>
             nearest.offer(alloc, entry_name, name);
         }
     }
+    nearest.say(b"a name has its type before it: did you mean ", hint);
 }
 
 // Prints what `restool ids` prints of layers, where it answers.

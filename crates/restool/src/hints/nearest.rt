@@ -15,12 +15,8 @@ pub(crate) struct Nearest<'w, 'n> {
 }
 
 impl<'w, 'n> Nearest<'w, 'n> {
-    pub(crate) fn new(wanted: &'w str) -> Nearest<'w, 'n> {
-        Nearest::of_part(wanted, wanted)
-    }
-
-    /// Looks for a part of what was written alone.
-    pub(crate) fn of_part(written: &str, wanted: &'w str) -> Nearest<'w, 'n> {
+    /// Looks for what was wanted, which is all that was written, or a part of it.
+    pub(crate) fn to(written: &str, wanted: &'w str) -> Nearest<'w, 'n> {
         Nearest {
             wanted,
             too_many: written.len() / 3 + 2,
@@ -30,20 +26,12 @@ impl<'w, 'n> Nearest<'w, 'n> {
 
     /// Keeps the word that stands for a text where none before is as near.
     pub(crate) fn offer(&mut self, alloc: Global, text: &str, word: &'n str) {
-        if let Some(edits) = self.edits_of(alloc, text) {
+        if text.len().abs_diff(self.wanted.len()) < self.too_many
+            && let Ok(edits) = levenshtein(alloc, self.wanted, text)
+            && edits < self.too_many
+        {
             self.too_many = edits;
             self.found = Some(word);
-        }
-    }
-
-    // How many edits make it of a text, where these are not too many.
-    fn edits_of(&self, alloc: Global, text: &str) -> Option<usize> {
-        if text.len().abs_diff(self.wanted.len()) >= self.too_many {
-            return None;
-        }
-        match levenshtein(alloc, self.wanted, text) {
-            Ok(edits) if edits < self.too_many => Some(edits),
-            _ => None,
         }
     }
 

@@ -1,10 +1,10 @@
 //! Overlays of which nothing maps.
 
 use crate::hints::Asked;
+use crate::hints::again::Again;
+use crate::hints::layers::SIDES;
 use crate::hints::text::Hint;
-use command_base::{
-    Inputs, LayerFiles, LayerParts, ListedLayer, Side, has_overlays, layers_in_word,
-};
+use command_base::{Inputs, LayerFiles, LayerParts, ListedLayer, has_overlays, layers_in_word};
 use std::alloc::Global;
 
 /// The id map of an overlay that has no resource of its base.
@@ -16,18 +16,17 @@ impl<I: Inputs> Asked<'_, '_, I> {
         if left.is_empty() {
             return;
         }
-        self.say_of_side(Side::Old, hint);
-        if hint.is_empty() {
-            self.say_of_side(Side::New, hint);
-        }
-    }
-
-    fn say_of_side(&self, side: Side, hint: &mut Hint) {
-        if let Some(word) = self.parts.layers(side)
-            && has_overlays(word)
-            && let Ok(files) = LayerFiles::read(self.alloc, &self.again(), word)
-        {
-            say_of_files(self.alloc, word, &files, hint);
+        let again = Again {
+            inputs: self.inputs,
+        };
+        for side in SIDES {
+            if hint.is_empty()
+                && let Some(word) = self.parts.layers(*side)
+                && has_overlays(word)
+                && let Ok(files) = LayerFiles::read(self.alloc, &again, word)
+            {
+                say_of_files(self.alloc, word, &files, hint);
+            }
         }
     }
 }

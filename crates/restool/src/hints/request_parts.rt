@@ -24,12 +24,19 @@ pub(crate) struct RequestParts<'t, 'a> {
 
 impl<'t, 'a> RequestParts<'t, 'a> {
     pub(crate) fn of(request: &'t Request<'a>) -> RequestParts<'t, 'a> {
+        let tables = match request {
+            Request::Rows(rows) => LayerWords::One(rows.table),
+            Request::Dump(dump) => LayerWords::One(dump.table),
+            Request::Map(map) => LayerWords::Both(map.target, map.overlay),
+            _ => LayerWords::None,
+        };
+        let (device, members, certificate) = request.files();
         RequestParts {
             layers: layer_words(request),
-            tables: request.tables(),
-            device: request.device(),
-            members: request.members(),
-            certificate: request.certificate(),
+            tables,
+            device,
+            members,
+            certificate,
             words: request.words(),
             rule: request.rule(),
             order: request.order(),
@@ -57,35 +64,22 @@ impl<'t, 'a> RequestParts<'t, 'a> {
 }
 
 impl<'a> Request<'a> {
-    fn tables(&self) -> LayerWords<'a> {
+    // Where the device is, the box, and the certificate.
+    fn files(&self) -> (Option<&'a str>, Option<&'a str>, Option<&'a str>) {
         match self {
-            Request::Rows(rows) => LayerWords::One(rows.table),
-            Request::Dump(dump) => LayerWords::One(dump.table),
-            Request::Map(map) => LayerWords::Both(map.target, map.overlay),
-            _ => LayerWords::None,
-        }
-    }
-
-    fn device(&self) -> Option<&'a str> {
-        match self {
-            Request::Query(query) => Some(query.device),
-            Request::Explain(explain) => Some(explain.device),
-            Request::Bag(bag) => Some(bag.device),
-            Request::Attr(attr) => Some(attr.device),
-            Request::Device(form) => Some(form.device),
-            _ => None,
-        }
-    }
-
-    fn members(&self) -> Option<&'a str> {
-        match self {
-            Request::Survey(survey) => survey.box_path,
-            Request::Make(make) => Some(make.box_path),
-            Request::Check(check) => Some(check.box_path),
-            Request::Diff(diff) => Some(diff.box_path),
-            Request::Values(values) => Some(values.box_path),
-            Request::Unused(unused) => Some(unused.box_path),
-            _ => None,
+            Request::Query(query) => (Some(query.device), None, None),
+            Request::Explain(explain) => (Some(explain.device), None, None),
+            Request::Bag(bag) => (Some(bag.device), None, None),
+            Request::Attr(attr) => (Some(attr.device), None, None),
+            Request::Device(form) => (Some(form.device), None, None),
+            Request::Survey(survey) => (None, survey.box_path, None),
+            Request::Make(make) => (None, Some(make.box_path), None),
+            Request::Check(check) => (None, Some(check.box_path), Some(check.certificate)),
+            Request::Diff(diff) => (None, Some(diff.box_path), None),
+            Request::Values(values) => (None, Some(values.box_path), None),
+            Request::Unused(unused) => (None, Some(unused.box_path), None),
+            Request::Show(show) => (None, None, Some(show.certificate)),
+            _ => (None, None, None),
         }
     }
 
@@ -99,14 +93,6 @@ impl<'a> Request<'a> {
             Request::Values(values) => &values.words,
             Request::Unused(unused) => &unused.words,
             _ => &[],
-        }
-    }
-
-    fn certificate(&self) -> Option<&'a str> {
-        match self {
-            Request::Show(show) => Some(show.certificate),
-            Request::Check(check) => Some(check.certificate),
-            _ => None,
         }
     }
 

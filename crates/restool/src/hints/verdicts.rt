@@ -1,6 +1,7 @@
 //! Certificates that are rejected.
 
 use crate::hints::Asked;
+use crate::hints::again::Again;
 use crate::hints::text::{Hint, first_line};
 use command_base::{Inputs, LocaleRule, Status};
 use resource_tool::Check;
@@ -29,26 +30,20 @@ impl<I: Inputs> Asked<'_, '_, I> {
         }
     }
 
+    // Says by which other rule of locales it is true, where it is.
     fn say_other_rule(&self, check: &Check<'_>, hint: &mut Hint) {
-        let (rule, said) = match check.locales {
+        let (locales, said): (LocaleRule, &[u8]) = match check.locales {
             LocaleRule::LanguageAndRegion => (
                 LocaleRule::Android,
-                "it is true with --locales android: was it made so?",
+                b"it is true with --locales android: was it made so?",
             ),
             LocaleRule::Android => (
                 LocaleRule::LanguageAndRegion,
-                "it is true without --locales android: was it made so?",
+                b"it is true without --locales android: was it made so?",
             ),
         };
-        if self.is_true_by(check, rule) {
-            hint.say_text(said);
-        }
-    }
-
-    // Whether a certificate is true by a rule of locales.
-    fn is_true_by(&self, check: &Check<'_>, locales: LocaleRule) -> bool {
         let Ok(goals) = check.goals.clone() else {
-            return false;
+            return;
         };
         let other = Check {
             layers: check.layers,
@@ -60,7 +55,12 @@ impl<I: Inputs> Asked<'_, '_, I> {
             android: false,
             goals,
         };
-        let answered = other.answer(self.alloc, &self.again(), &mut sink(), &mut sink());
-        matches!(answered.ok(), Some(Status::Done))
+        let again = Again {
+            inputs: self.inputs,
+        };
+        let answered = other.answer(self.alloc, &again, &mut sink(), &mut sink());
+        if let Some(Status::Done) = answered.ok() {
+            hint.say(said);
+        }
     }
 }

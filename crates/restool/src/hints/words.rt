@@ -48,7 +48,12 @@ fn meant_by(alloc: Global, word: &str) -> Option<String> {
     if word.len() == ID_DIGITS {
         return text_of(alloc, &["0x", word]);
     }
-    text_of(alloc, &[name_in_reference(word)?])
+    // A reference to a resource has its sign before it, or that of a new id, and one to an attribute has another.
+    let name = match word.strip_prefix('@') {
+        Some(name) => name.strip_prefix('+').unwrap_or(name),
+        None => word.strip_prefix('?')?,
+    };
+    text_of(alloc, &[name])
 }
 
 fn name_of_field<'w>(alloc: Global, package: Option<&'w str>, field: &'w str) -> Option<String> {
@@ -58,14 +63,6 @@ fn name_of_field<'w>(alloc: Global, package: Option<&'w str>, field: &'w str) ->
         None => ("", ""),
     };
     text_of(alloc, &[package, colon, type_name, "/", entry_name])
-}
-
-// What stands behind the sign of a reference to a resource, to a new id, or to an attribute, as XML has it.
-fn name_in_reference(word: &str) -> Option<&str> {
-    match word.strip_prefix('@') {
-        Some(name) => Some(name.strip_prefix('+').unwrap_or(name)),
-        None => word.strip_prefix('?'),
-    }
 }
 
 impl<I: Inputs> Asked<'_, '_, I> {
@@ -89,8 +86,14 @@ impl<I: Inputs> Asked<'_, '_, I> {
     // Where a word stands that asks for nothing that is there, if that is in a file, and what is meant.
     fn say_word(&self, word: &str, meant: &Hint, hint: &mut Hint) {
         for asked in self.parts.words {
-            if hint.is_empty() {
-                self.say_place(*asked, word, hint);
+            if hint.is_empty()
+                && let Some(path) = file_path(*asked)
+                && let Some(bytes) = self.inputs.read_again(path)
+                && let Some(number) = number_of_line(&bytes, word)
+            {
+                hint.say_text(path);
+                hint.say(b", line ");
+                hint.say_number(number);
             }
         }
         if !hint.is_empty() && !meant.is_empty() {
@@ -99,38 +102,20 @@ impl<I: Inputs> Asked<'_, '_, I> {
         hint.append(meant);
     }
 
-    // The file and the line of a word, if it stands in the file that this word names.
-    fn say_place(&self, asked: &str, word: &str, hint: &mut Hint) {
-        if let Some(path) = file_path(asked)
-            && let Some(bytes) = self.inputs.read_again(path)
-            && let Some(number) = number_of_line(&bytes, word)
-        {
-            hint.say_text(path);
-            hint.say(b", line ");
-            hint.say_number(number);
-        }
-    }
-
     /// Says what a path may have been meant for, where no file lies.
     pub(crate) fn say_no_file(&self, path: &str, hint: &mut Hint) {
         if path.is_empty() {
-            hint.say(b"a word is empty: did the command fail that was to print it?");
-        } else if self.parts.device == Some(path) {
-            say_unmarked(path, hint);
-        } else if name_file(self.parts.words, path) {
-            say_marked(path, hint);
+            return hint.say(b"a word is empty: did the command fail that was to print it?");
+        }
+        if self.parts.device == Some(path) {
+            return say_unmarked(path, hint);
+        }
+        for word in self.parts.words {
+            if file_path(*word) == Some(path) {
+                return say_marked(path, hint);
+            }
         }
     }
-}
-
-// Whether some word names the file at a path.
-fn name_file(words: &[&str], path: &str) -> bool {
-    for word in words {
-        if file_path(*word) == Some(path) {
-            return true;
-        }
-    }
-    false
 }
 
 // The number of the line that is a word.

@@ -75,7 +75,10 @@ impl<'w> Asked<'w> {
 
 // The goals of a certificate.
 fn goals_in(alloc: Global, certificate: &str) -> Result<Vec<Goal>, Fail> {
-    let trees = Cert::read(alloc, certificate.as_bytes())?.goals;
-    let goals = trees.into_iter().map(|tree| tree.goal).collect(alloc)?;
+    let certificate = Cert::read(alloc, certificate.as_bytes())?;
+    let mut goals = Vec::new(alloc);
+    for tree in &certificate.goals {
+        goals.push(tree.goal.clone()?)?;
+    }
     Ok(goals)
 }

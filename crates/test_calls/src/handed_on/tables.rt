@@ -2,8 +2,8 @@
 //! the library finds it there.
 
 use chunk_walk::{Chunk, ChunkFault, Chunks, chunk_at, u16_at, u32_at};
+use overlay_map::{Row, Rows, Table, TableFault};
 use res_value::{Cell, Goal, GoalFault, MapRows, ResId, Value, write_value};
-use resource_table::{Row, Rows, Table, TableFault};
 use resource_text::{
     LayersFault, ToolFault, dump_text, end_text, explain, fault_text, rows_text, verdict_text,
 };

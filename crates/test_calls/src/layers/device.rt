@@ -28,7 +28,11 @@ fn put(fields: &mut Fields, name: &str, value: &str) -> Option<()> {
         fields.locale = Locale::read(value).ok()?;
         return Some(());
     }
-    let coord = Coord::ALL.iter().find(|coord| coord.name() == name)?;
-    fields.numbers[coord.place()] = value.parse::<u64>().ok()?;
-    Some(())
+    for coord in &Coord::ALL {
+        if coord.name() == name {
+            fields.numbers[coord.place()] = value.parse::<u64>().ok()?;
+            return Some(());
+        }
+    }
+    None
 }

@@ -2,8 +2,7 @@
 
 use crate::texts::show;
 use bags_themes::BagFault;
-use overlay_map::{MapFault, StackFault};
-use resource_table::TableFault;
+use overlay_map::{MapFault, StackFault, TableFault};
 use resource_text::Side;
 use resource_tool::{InputFault, LayersFault, ToolFault};
 

@@ -3,8 +3,8 @@
 use crate::texts::show;
 use chunk_walk::ChunkFault;
 use config_record::RecordFault;
+use overlay_map::TableFault;
 use res_value::MapRowsFault;
-use resource_table::TableFault;
 use string_pool::{PoolFault, StringFault};
 
 pub fn print(rt: &HostRuntime) {

@@ -1,7 +1,7 @@
 use Rattle.std.proofs.Common.{rules, ◌≡◌, ◌≢◌, List, Result, Ok, sym, ap, ◌∙◌}
 use Rattle.bags_themes.specs.config_record.DeviceSeen.{device_numbers}
 use Rattle.bags_themes.specs.overlay_map.Layer.{LayerOf}
-use Rattle.bags_themes.specs.declared.bag_row.BagRow.{BagRow}
+use Rattle.bags_themes.specs.bag_rows.declared.bag_row.BagRow.{BagRow}
 use Rattle.bags_themes.specs.declared.bag_fault.BagFault.{BagFault}
 use Rattle.bags_themes.specs.declared.bag_fault.BagFault.TheVariants.{OutOfMemory}
 use Rattle.bags_themes.specs.Bag.{bag_of}

@@ -1,5 +1,5 @@
 use Rattle.contract_words.proofs.TextSteps.{PutsAllBut-next_at}
-use Rattle.bags_themes.specs.resource_table.Package.{package_of}
+use Rattle.bags_themes.specs.overlay_map.Package.{package_of}
 use Rattle.answer_text.specs.DumpText.{package_text}
 use Rattle.answer_text.proofs.dump.dump_text.Goals as goal
 

@@ -1,6 +1,6 @@
 use Rattle.std.proofs.Common.{drop}
 use Rattle.contract_words.proofs.TextSteps.{PutsAllBut}
-use Rattle.bags_themes.specs.resource_table.Package.{packages_of}
+use Rattle.bags_themes.specs.overlay_map.Package.{packages_of}
 use Rattle.answer_text.specs.DumpText.{package_text}
 use Rattle.answer_text.proofs.dump.dump_text.Given as goal
 

@@ -2,7 +2,7 @@ use Rattle.std.proofs.Common.{◌≡◌, ℕ, length, sym, ap, subst, arith}
 use Rattle.std.proofs.lemmas.Result.{on_ok_weaker}
 use Rattle.std.specs.Io.KnownBytes.{Appends}
 use Rattle.contract_words.proofs.TextSteps.{PutsAllBut-next, PutsAllBut-end}
-use Rattle.bags_themes.specs.resource_table.Table.{rows_of}
+use Rattle.bags_themes.specs.overlay_map.Table.{rows_of}
 use Rattle.bags_themes.specs.type_chunks.Row.{set_aside_count}
 use Rattle.answer_text.specs.RowsText.{rows_text, totals_text}
 use Rattle.answer_text.proofs.RowCounts.{counted-one, counted-none}

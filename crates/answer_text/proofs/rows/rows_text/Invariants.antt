@@ -1,6 +1,6 @@
 use Rattle.std.proofs.Common.{◌≡◌, ◌+◌, ◌^◌, ◌<◌, ◌≤◌, length}
 use Rattle.contract_words.proofs.TextSteps.{PutsAllBut}
-use Rattle.bags_themes.specs.resource_table.Table.{rows_of}
+use Rattle.bags_themes.specs.overlay_map.Table.{rows_of}
 use Rattle.bags_themes.specs.type_chunks.Row.{set_aside_count}
 use Rattle.answer_text.specs.RowsText.{row_text}
 use Rattle.answer_text.proofs.rows.rows_text.Given as goal

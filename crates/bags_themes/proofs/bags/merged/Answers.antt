@@ -1,14 +1,23 @@
-use Rattle.std.proofs.Common.{◌∙◌, ap}
-use Rattle.bags_themes.specs.FoundBag.{found_bag_of, found_bags_of}
-use Rattle.bags_themes.specs.Merge.{merge}
-use Rattle.bags_themes.proofs.ChainSteps.{merged_onto, merged_onto-nothing, merged_next, found_bags_of-last}
+use Rattle.std.proofs.Common.{◌≡◌, ◌+◌, ◌-◌, ◌<◌, [], ◌∷◌, ◌++◌, length, take, sym, ap, ◌∙◌, arith}
+use Rattle.std.proofs.lemmas.List.{take_more}
+use Rattle.bag_rows.specs.Merge.{merge}
+use Rattle.bags_themes.specs.declared.found_bag.FoundBag.{FoundBag}
+use Rattle.bags_themes.specs.FoundBag.{found_bag_of}
+use Rattle.bags_themes.proofs.ChainSteps.{merged_next, found_bags_of-last}
 use Rattle.bags_themes.proofs.bags.merged.Goals as goal
-
-pub bags-init : goal.bags-init
-bags-init c = ap (λ t. merged_onto t (found_bags_of c.args.chain.items)) c.new-rows.ensures.items ∙ merged_onto-nothing (found_bags_of c.args.chain.items)
 
 pub bags-preserved : goal.bags-preserved
 bags-preserved c =
-    let bag = found_bag_of c.in-Some.bag in
-    merged_next _ _ bag _ _ _ c.bags.invariant (found_bags_of-last _ _ _ c.in-Some.ensures.items)
-    (c.in_ok-rows.ensures ∙ ap (λ t. merge t bag.rows) c.deref.ensures.value)
+    let chain = c.args.chain.now in
+    let place = c.bags.left - 1 in
+    let bag = c.index-chain-left.result in
+    let within : place < length chain = omega (arith, c.bags.invariant.within, c.bags-test.true) in
+    let last : c.bags.left ≡ place + 1 = omega (arith, c.bags-test.true) in
+    let here : take (place + 1) chain ≡ take place chain ++ bag ∷ [] =
+    take_more chain place bag within ∙ ap (λ (there : FoundBag). take place chain ++ there ∷ []) (sym c.index-chain-left.is) in
+    record {
+      within = omega (arith, c.bags.invariant.within);
+      others = merged_next _ _ (found_bag_of bag) _ _ _ c.bags.invariant.others
+          (found_bags_of-last (take c.bags.left chain) (take place chain) bag (ap (λ n. take n chain) last ∙ here))
+          (c.in_ok-rows.ensures ∙ ap (λ t. merge t (found_bag_of bag).rows) c.deref.ensures.value);
+    }

@@ -1,4 +1,4 @@
-use Rattle.command_base.specs.answer_text.resource_table.Table.{rows_of}
+use Rattle.command_base.specs.answer_text.overlay_map.Table.{rows_of}
 use Rattle.command_base.proofs.FirstRowSteps.{FindsAllBut}
 use Rattle.command_base.proofs.first_rows.first_rows.Given as goal
 

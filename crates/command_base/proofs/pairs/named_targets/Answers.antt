@@ -1,6 +1,6 @@
 use Rattle.std.proofs.Common.{◌+◌, ◌∷◌, List, drop, map, ap, sym, ◌∙◌}
 use Rattle.std.proofs.lemmas.List.{drop_more, drop_all}
-use Rattle.command_base.specs.answer_text.type_chunks.declared.row.Row.{Row}
+use Rattle.command_base.specs.answer_text.type_chunks.type_entries.declared.row.Row.{Row}
 use Rattle.command_base.specs.answer_text.type_chunks.Row.{row_of}
 use Rattle.command_base.specs.NamedTarget.{named_in}
 use Rattle.command_base.proofs.LoopSteps.{JoinsAllBut-next, JoinsAllBut-end}

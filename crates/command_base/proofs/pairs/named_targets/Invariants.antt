@@ -1,6 +1,6 @@
 use Rattle.std.proofs.Common.{drop, map}
 use Rattle.std.specs.List.{flat_map}
-use Rattle.command_base.specs.answer_text.resource_table.Table.{rows_of}
+use Rattle.command_base.specs.answer_text.overlay_map.Table.{rows_of}
 use Rattle.command_base.specs.answer_text.type_chunks.Row.{row_of}
 use Rattle.command_base.specs.FirstRows.{first_rows}
 use Rattle.command_base.specs.NamedTarget.{named_in, named_seen}

@@ -3,7 +3,7 @@ use Rattle.std.specs.Borrow.{Bor}
 use Rattle.std.proofs.lemmas.Result.{IfOk-weaker}
 use Rattle.command_base.specs.names.Names.{name_of}
 use Rattle.command_base.specs.NamedTarget.{named_seen}
-use Rattle.command_base.specs.answer_text.resource_table.declared.table.Table.{Table}
+use Rattle.command_base.specs.answer_text.overlay_map.declared.table.Table.{Table}
 use Rattle.command_base.proofs.NamedSteps.{pairs_in-found, found-count}
 use Rattle.command_base.proofs.pairs.pairs_in.Goals as goal
 

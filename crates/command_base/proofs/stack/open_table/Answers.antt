@@ -1,5 +1,5 @@
 use Rattle.std.proofs.Common.{Err, Result, ap, sym, ◌∙◌}
-use Rattle.command_base.specs.resource_table.Table.{TableOf}
+use Rattle.command_base.specs.overlay_map.Table.{TableOf}
 use Rattle.command_base.specs.declared.fault.ToolFault.{ToolFault}
 use Rattle.command_base.specs.ToolFault.{fault_of_layer_table}
 use Rattle.command_base.specs.MapErr.{map_err}

@@ -3,7 +3,7 @@ use Rattle.std.specs.List.{filter_map}
 use Rattle.std.specs.Prelude.{if◌then◌else◌}
 use Rattle.std.proofs.lemmas.List.{drop_more, drop_all}
 use Rattle.command_base.specs.MadeMap.{if_unmapped}
-use Rattle.command_base.specs.answer_text.type_chunks.declared.row.Row.{Row}
+use Rattle.command_base.specs.answer_text.type_chunks.type_entries.declared.row.Row.{Row}
 use Rattle.command_base.specs.answer_text.type_chunks.Row.{RowOf, row_of}
 use Rattle.command_base.specs.overlay_map.IdMap.{pairs_of}
 use Rattle.command_base.proofs.LoopSteps.{GivesAllBut-push, GivesAllBut-skip, GivesAllBut-end}

@@ -1,5 +1,5 @@
 use Rattle.std.specs.Option.{option_map}
-use Rattle.overlay_map.specs.resource_table.Table.{rows_of}
+use Rattle.overlay_map.specs.Table.{rows_of}
 use Rattle.names.specs.IdsOfType.{numbers_of_type, put_each}
 use Rattle.names.proofs.IdSteps.{PutsAllBut}
 use Rattle.names.proofs.ids.put_numbers.Given as goal

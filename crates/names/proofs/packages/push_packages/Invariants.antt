@@ -1,5 +1,5 @@
 use Rattle.std.proofs.Common.{◌≡◌, ◌++◌, map, take}
-use Rattle.overlay_map.specs.resource_table.Package.{packages_of}
+use Rattle.overlay_map.specs.Package.{packages_of}
 use Rattle.names.specs.Packages.{package_name_of, name_of_package}
 use Rattle.names.proofs.packages.push_packages.Given as goal
 

@@ -1,6 +1,6 @@
 use Rattle.std.proofs.Common.{◌++◌, List, Bor, map, ap, ◌∙◌}
-use Rattle.overlay_map.specs.resource_table.Package.{PackageOf}
-use Rattle.overlay_map.specs.resource_table.Table.{TableOf}
+use Rattle.overlay_map.specs.Package.{PackageOf}
+use Rattle.overlay_map.specs.Table.{TableOf}
 use Rattle.std.proofs.lemmas.List.{take_all}
 use Rattle.names.specs.Packages.{name_of_package, package_name_of, packages_in}
 use Rattle.names.proofs.PackageSteps.{packages-more, packages-none}

@@ -1,5 +1,5 @@
 use Rattle.std.proofs.Common.{◌≡◌, map}
-use Rattle.overlay_map.specs.resource_table.Table.{rows_of}
+use Rattle.overlay_map.specs.Table.{rows_of}
 use Rattle.names.specs.Sought.{AreSought}
 use Rattle.names.specs.Sought.{noted_each, entry_names, ArePlacesOf}
 use Rattle.names.proofs.search.look_in.Given as goal

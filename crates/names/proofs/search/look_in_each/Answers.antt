@@ -1,6 +1,6 @@
 use Rattle.std.proofs.Common.{◌+◌, ◌∷◌, ℕ, List, map, drop, subst, sym, ap, ◌∙◌}
 use Rattle.std.proofs.lemmas.List.{drop_more, drop_all}
-use Rattle.overlay_map.specs.resource_table.Table.{rows_of}
+use Rattle.overlay_map.specs.Table.{rows_of}
 use Rattle.names.specs.declared.sought.Sought.{Sought}
 use Rattle.names.specs.Sought.{entry_names, noted_in, ArePlacesOf}
 use Rattle.names.proofs.SoughtSteps.{entry_names-noted_each, map-noted_in-next, map-noted_in-none}

@@ -1,5 +1,5 @@
 use Rattle.std.proofs.Common.{List, ℕ, subst}
-use Rattle.overlay_map.specs.resource_table.Table.{rows_of}
+use Rattle.overlay_map.specs.Table.{rows_of}
 use Rattle.names.specs.Noted.{Notes}
 use Rattle.names.specs.StackLabels.{named_rows}
 use Rattle.names.proofs.NotesSteps.{NotesAllBut-next, NotesAllBut-end, ids_of_rows}

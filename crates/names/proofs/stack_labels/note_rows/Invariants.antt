@@ -1,5 +1,5 @@
 use Rattle.std.proofs.Common.{[], ◌∷◌}
-use Rattle.overlay_map.specs.resource_table.Table.{rows_of}
+use Rattle.overlay_map.specs.Table.{rows_of}
 use Rattle.names.specs.Noted.{AreNoted}
 use Rattle.names.specs.StackLabels.{name_of_row, named}
 use Rattle.names.proofs.NotesSteps.{NotesAllBut}

@@ -1,5 +1,5 @@
 use Rattle.std.proofs.Common.{map, drop, None}
-use Rattle.overlay_map.specs.resource_table.Table.{rows_of}
+use Rattle.overlay_map.specs.Table.{rows_of}
 use Rattle.names.specs.IdsOfType.{numbers_of_type}
 use Rattle.names.specs.StackLabels.{named_rows}
 use Rattle.names.proofs.NotesSteps.{NotesAllBut}

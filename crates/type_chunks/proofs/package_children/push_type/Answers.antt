@@ -1,11 +1,11 @@
-use Rattle.std.proofs.Common.{ℕ, ◌+◌, ◌≤◌, List, [], ◌∷◌, ◌++◌, length, arith, ◌≡◌, Option, Some, Ok, sym, ap, ◌∙◌}
+use Rattle.std.proofs.Common.{◌+◌, ◌≤◌, List, [], ◌∷◌, ◌++◌, length, arith, ◌≡◌, Option, Some, Ok, sym, ap, ◌∙◌}
 use Rattle.std.proofs.lemmas.List.{length-append}
 use Rattle.std.specs.Option.{option_map}
 use Rattle.std.proofs.lemmas.Result.{err_from_is_err_and}
 use Rattle.string_pool.specs.chunk_walk.Chunk.{chunk_of}
-use Rattle.type_chunks.specs.declared.type_spec.TypeSpec.{TypeSpec}
-use Rattle.type_chunks.specs.TypeSpec.{type_spec_of}
-use Rattle.type_chunks.specs.TypeChunk.{type_chunk_of}
+use Rattle.type_entries.specs.declared.type_spec.TypeSpec.{TypeSpec}
+use Rattle.type_entries.specs.TypeSpec.{type_spec_of}
+use Rattle.type_entries.specs.TypeChunk.{type_chunk_of}
 use Rattle.type_chunks.specs.TypePlaces.{type_at}
 use Rattle.type_chunks.proofs.PlacesSteps.{type_at-found, keeps, kept-stands, type-fault, entries-fault, type-pushed}
 use Rattle.type_chunks.proofs.package_children.push_type.Goals as goal

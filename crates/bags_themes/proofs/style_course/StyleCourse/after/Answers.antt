@@ -42,7 +42,7 @@ returns-then-bag-eq0 c =
     let bag = found_bag_of c.in-Ok.bag in
     let found : Ok bag ≡ bag_in (option_map cand_of c.args.best.now) = ap seen_bag (sym c.in-Ok.is) ∙ c.of.ensures in
     let top : (bag.parent == 0) ≡ true = grind (arith, nat_tests) in
-    let more = found_bags_of-last c.in_ok-found.found.items self.found.items c.in-Ok.bag c.in_ok-found.ensures in
+    let more = found_bags_of-last c.deref.result.now self.found.items c.in-Ok.bag (c.deref.ensures.value ∙ c.in_ok-found.ensures) in
     way_over_ok _ _ _ _ _ (λ stack d.
     ap (λ (bags : List FoundBagOf). styles_trace stack self.attr.0 (values_after true (merged bags) (value_of self.theme.value)) self.styles.now d) more
     ∙ top_bag stack self.attr.0 self.styles.now (value_of self.theme.value) self.style self.left (found_bags_of self.found.items) bag d (omega arith) top

@@ -28,7 +28,7 @@ returns c =
     let self = c.args.self.now in
     let full : 0 < length self.found.items = grind (arith, nat_tests) in
     let some : 0 < length (found_bags_of self.found.items) = omega (arith, length-map self.found.items found_bag_of, full) in
-    let copied : c.in_ok-found.found.items ≡ self.found.items = c.in_ok-found.ensures.ok ∙ c.as_slice.ensures in
+    let lent : c.deref.result.now ≡ self.found.items = c.deref.ensures.value in
     way_over_ok _ _ _ _ _ (λ stack d.
-    ap (λ (bags : List FoundBag). styles_trace stack self.attr.0 (values_after true (merged (found_bags_of bags)) (value_of self.theme.value)) self.styles.now d) copied
+    ap (λ (bags : List FoundBag). styles_trace stack self.attr.0 (values_after true (merged (found_bags_of bags)) (value_of self.theme.value)) self.styles.now d) lent
     ∙ no_parent stack self.attr.0 self.styles.now (value_of self.theme.value) self.style self.left (found_bags_of self.found.items) c.args.fault d some) (omega arith) c.after_chain.ensures

@@ -1,5 +1,5 @@
 use Rattle.std.proofs.Common.{List, subst, ◌∙◌}
-use Rattle.bags_themes.specs.declared.bag_row.BagRow.{BagRow}
+use Rattle.bag_rows.specs.declared.bag_row.BagRow.{BagRow}
 use Rattle.bags_themes.specs.Theme.{AppliesRows}
 use Rattle.bags_themes.proofs.StyleSteps.{styles_applied}
 use Rattle.bags_themes.proofs.theme.Theme.of_styles.Goals as goal

@@ -1,7 +1,7 @@
 use Rattle.std.specs.BTreeMap.{values}
 use Rattle.std.proofs.lemmas.Iterator.{items_from_collect}
 use Rattle.std.proofs.lemmas.Iterator.Consumers.{YieldsList-from_copied, YieldsList-from_rest}
-use Rattle.command_base.specs.answer_text.resource_table.Table.{rows_of}
+use Rattle.command_base.specs.answer_text.overlay_map.Table.{rows_of}
 use Rattle.command_base.proofs.FirstRowSteps.{first_rows-collected}
 use Rattle.command_base.proofs.first_rows.FirstRows.in_order.Goals as goal
 

@@ -1,7 +1,7 @@
 use Rattle.std.proofs.Common.{◌≡◌, List, Bor, Vec, Global, map, rules, sym, ap, ◌∙◌}
 use Rattle.std.specs.Option.{option_map}
-use Rattle.overlay_map.specs.resource_table.declared.table.Table.{Table}
-use Rattle.overlay_map.specs.resource_table.Table.{TableOf}
+use Rattle.overlay_map.specs.declared.table.Table.{Table}
+use Rattle.overlay_map.specs.Table.{TableOf}
 use Rattle.names.specs.IdsOfType.{ids_of_type}
 use Rattle.res_value.specs.declared.res_id.ResId.{ResId}
 use Rattle.names.proofs.TellsSteps.{known-more}

@@ -1,5 +1,5 @@
 use Rattle.std.proofs.Common.{List, Bor, map, ap, ◌∙◌}
-use Rattle.overlay_map.specs.resource_table.declared.table.Table.{Table}
+use Rattle.overlay_map.specs.declared.table.Table.{Table}
 use Rattle.names.specs.Packages.{package_name_of, packages_in}
 use Rattle.names.specs.declared.packages.PackageName.{PackageName}
 use Rattle.names.proofs.TellsSteps.{found-told, known-none}

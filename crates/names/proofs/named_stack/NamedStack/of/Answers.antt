@@ -1,7 +1,7 @@
 use Rattle.std.proofs.Common.{List, map, ap, ◌∙◌}
 use Rattle.std.specs.Borrow.{Bor}
-use Rattle.overlay_map.specs.resource_table.Table.{TableOf}
-use Rattle.overlay_map.specs.resource_table.declared.table.Table.{Table}
+use Rattle.overlay_map.specs.Table.{TableOf}
+use Rattle.overlay_map.specs.declared.table.Table.{Table}
 use Rattle.names.specs.Shared.{shared_of}
 use Rattle.names.proofs.NamedSteps.{has_labels, shared-noted}
 use Rattle.names.proofs.named_stack.NamedStack.of.Goals as goal

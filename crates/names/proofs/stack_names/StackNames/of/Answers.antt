@@ -1,7 +1,7 @@
 use Rattle.std.proofs.Common.{List, None, map, ap, ◌∙◌}
 use Rattle.std.specs.Borrow.{Bor}
-use Rattle.overlay_map.specs.resource_table.Table.{TableOf}
-use Rattle.overlay_map.specs.resource_table.declared.table.Table.{Table}
+use Rattle.overlay_map.specs.Table.{TableOf}
+use Rattle.overlay_map.specs.declared.table.Table.{Table}
 use Rattle.names.specs.IdsOfType.{ids_of_type}
 use Rattle.names.specs.Packages.{packages_in}
 use Rattle.names.proofs.IdWordSteps.{all-words}

@@ -1,7 +1,7 @@
 use Rattle.std.proofs.Common.{◌≡◌, List, [], ◌∷◌, ◌++◌, ℕ, map, refl, sym, ap, ◌∙◌, append_assoc}
 use Rattle.std.proofs.lemmas.List.{map-append}
 use Rattle.std.specs.Map.{keys_of}
-use Rattle.overlay_map.specs.resource_table.res_value.declared.res_id.ResId.{ResId}
+use Rattle.type_chunks.specs.res_value.declared.res_id.ResId.{ResId}
 use Rattle.overlay_map.specs.IdMap.{IdPair, pairs_of, targets_in}
 use Rattle.overlay_map.proofs.id_map.IdMap.targets.Goals as goal
 

@@ -1,6 +1,6 @@
 use Rattle.std.proofs.Common.{◌≡◌, ◌+◌, ◌*◌, ◌^◌, ◌≤◌, drop}
-use Rattle.resource_table.specs.type_chunks.Row.{set_aside_count}
-use Rattle.resource_table.specs.type_chunks.TypeRows.{rows_of_types}
+use Rattle.type_chunks.specs.Row.{set_aside_count}
+use Rattle.type_chunks.specs.TypeRows.{rows_of_types}
 use Rattle.overlay_map.specs.SetAside.{set_aside_in_layer}
 use Rattle.overlay_map.proofs.layer.Layer.set_aside.Given as goal
 

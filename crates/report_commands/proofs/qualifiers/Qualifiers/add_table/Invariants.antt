@@ -1,6 +1,6 @@
 use Rattle.std.proofs.Common.{◌≡◌}
 use Rattle.std.specs.List.{flat_map}
-use Rattle.command_base.specs.overlay_map.resource_table.Table.{rows_of}
+use Rattle.command_base.specs.overlay_map.Table.{rows_of}
 use Rattle.report_commands.specs.Counting.{counted, said_by}
 use Rattle.report_commands.proofs.qualifiers.Qualifiers.add_table.Given as goal
 

@@ -1,5 +1,5 @@
 use Rattle.std.proofs.Common.{◌≡◌, ◌+◌, ◌++◌, ℕ, length}
-use Rattle.reference_resolver.specs.resource_table.Table.{rows_of}
+use Rattle.reference_resolver.specs.overlay_map.Table.{rows_of}
 use Rattle.stack_diff.specs.RowPlaces.{places_with_id}
 use Rattle.stack_diff.specs.PlacesSeen.{places_at, ListsIds}
 use Rattle.stack_diff.proofs.layer_rows.LayerRows.of.Given as goal

@@ -1,8 +1,8 @@
 use Rattle.std.proofs.Common.{None, ap, Option}
 use Rattle.std.proofs.lemmas.List.{get_or-replicate}
 use Rattle.std.specs.Option.{option_map}
-use Rattle.type_chunks.specs.declared.type_spec.TypeSpec.{TypeSpec}
-use Rattle.type_chunks.specs.TypeSpec.{type_spec_of}
+use Rattle.type_entries.specs.declared.type_spec.TypeSpec.{TypeSpec}
+use Rattle.type_entries.specs.TypeSpec.{type_spec_of}
 use Rattle.type_chunks.proofs.KnownSteps.{Knows-none}
 use Rattle.type_chunks.proofs.known_specs.KnownSpecs.new.Goals as goal
 

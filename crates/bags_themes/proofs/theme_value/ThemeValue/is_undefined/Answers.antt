@@ -1,5 +1,0 @@
-use Rattle.std.proofs.Common.{refl}
-use Rattle.bags_themes.proofs.theme_value.ThemeValue.is_undefined.Goals as goal
-
-pub returns-then-self-eq-NULL : goal.returns-then-self-eq-NULL
-returns-then-self-eq-NULL c = rw c.if-self-eq-NULL.true refl

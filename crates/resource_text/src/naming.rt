@@ -1,0 +1,171 @@
+//! What stands in answers for ids, values and layers.
+
+ghost use Rattle.std.specs.Prelude.{◌≡◌};
+ghost use Rattle.std.specs.List.{list_all};
+ghost use Rattle.std.specs.Char.{is_ascii_graphic};
+ghost use Rattle.contract_words.specs.Writes.{Writes};
+ghost use Rattle.resource_text.specs.Naming.{path_notation};
+
+use answer_text::{
+    BagRow, Keys, ResId, RowKey, Stack, Value, value_content, write_key_notation, write_layer,
+    write_row_notation, write_value_notation,
+};
+use names::{NamedStack, PackageNames, write_quoted};
+use std::alloc::{AllocError, Global};
+use std::io::{self, Write};
+use std::marker::Model;
+
+/// A stack with its names, and the paths of the tables of its layers. Contracts see it as the stack and the paths.
+#[derive(Drop)]
+pub struct Naming<'s, 'a, 'p> {
+    alloc: Global,
+    stack: NamedStack<'s, 'a>,
+    packages: PackageNames<'a>,
+    paths: &'p [String],
+}
+
+impl<'s, 'a, 'p> Model for Naming<'s, 'a, 'p> {
+    ghost use Rattle.std.specs.Prelude.{◌≡◌, map, string_bytes};
+    ghost use Rattle.names.specs.NamedIds.{packages_of};
+    ghost use Rattle.resource_text.specs.Naming.{NamingOf};
+
+    ghost Value = { NamingOf };
+
+    ghost view = { λ naming. record { stack = naming.stack; paths = map string_bytes naming.paths.now } };
+
+    ghost invariant = { λ naming. naming.packages ≡ packages_of naming.stack };
+}
+
+impl<'s, 'a, 'p> Naming<'s, 'a, 'p> {
+    ghost use Rattle.std.specs.Prelude.{◌≡◌, map, string_bytes, IfOk};
+    ghost use Rattle.contract_words.specs.Writes.{Writes};
+    ghost use Rattle.resource_text.specs.Naming.{id_notation, value_at, key_and_value, row_at, layer_notation};
+    ghost use Rattle.answer_text.specs.ContentSeen.{row_key_of};
+    ghost use Rattle.answer_text.specs.ValueContent.{value_content};
+
+    /// Notes what the ids of a stack are called, whose tables lie at these paths.
+    pub fn of(
+        alloc: Global,
+        stack: &'s Stack<'a>,
+        paths: &'p [String],
+    ) -> Result<Naming<'s, 'a, 'p>, AllocError>
+        ensures { IfOk result (λ naming. naming ≡ record { stack = stack.now; paths = map string_bytes paths.now }) }
+    {
+        let tables = stack.base_tables(alloc)?;
+        let packages = PackageNames::of(alloc, &tables)?;
+        let stack = NamedStack::of(alloc, stack)?;
+        Ok(Naming {
+            alloc,
+            stack,
+            packages,
+            paths,
+        })
+    }
+
+    pub fn stack(&self) -> &'s Stack<'a>
+        ensures { result.now ≡ self.now.stack }
+    {
+        self.stack.stack()
+    }
+
+    /// What takes memory for it.
+    pub(crate) fn alloc(&self) -> Global {
+        self.alloc
+    }
+
+    /// Writes what an id is called.
+    #[tactic(auto, unfolding(crate::specs::Naming::id_notation))]
+    pub fn write_id<W: Write + Drop>(&self, id: ResId, out: &mut W) -> io::Result<()>
+        ensures { Writes W.contents out.old out.new result (id_notation self.now id.0) }
+    {
+        let label = self.stack.label_of_id(self.alloc, id)?;
+        let written = self.packages.write_label(&label, out);
+        drop(label);
+        written
+    }
+
+    /// Writes what a value says that a row of the layer at a place holds.
+    #[tactic(auto, unfolding(crate::specs::Naming::value_at))]
+    pub(crate) fn write_value<W: Write + Drop>(
+        &self,
+        layer: usize,
+        value: Value,
+        out: &mut W,
+    ) -> io::Result<()>
+        ensures { Writes W.contents out.old out.new result (value_at self.now layer value) }
+    {
+        let content = value_content(self.alloc, &self.stack, layer, value)?;
+        let written = write_value_notation(&self.packages, &content, out);
+        drop(content);
+        written
+    }
+
+    /// Writes the row of a bag at a place: what tells it from the others, and what it says.
+    #[tactic(auto, unfolding(crate::specs::Naming::row_at))]
+    pub(crate) fn write_row<W: Write + Drop>(
+        &self,
+        keys: Keys,
+        place: usize,
+        row: BagRow,
+        out: &mut W,
+    ) -> io::Result<()>
+        ensures { Writes W.contents out.old out.new result (row_at self.now keys place row) }
+    {
+        let key = keys.of_row(self.alloc, &self.stack, place, row.name)?;
+        let written = self.write_key_and_value(&key, row, out);
+        drop(key);
+        written
+    }
+
+    #[tactic(auto, unfolding(crate::specs::Naming::key_and_value))]
+    fn write_key_and_value<W: Write + Drop>(
+        &self,
+        key: &RowKey<'_>,
+        row: BagRow,
+        out: &mut W,
+    ) -> io::Result<()>
+        ensures { Writes W.contents out.old out.new result (key_and_value self.now (row_key_of key.now) (value_content self.now.stack row.layer row.value)) }
+    {
+        write_key_notation(&self.packages, key, out)?;
+        out.write_all(b" ")?;
+        let value = value_content(self.alloc, &self.stack, row.layer, row.value)?;
+        let written = write_row_notation(&self.packages, key, &value, out);
+        drop(value);
+        written
+    }
+
+    /// Writes the path of the table of the layer at a place.
+    #[tactic(auto, unfolding(crate::specs::Naming::layer_notation))]
+    pub(crate) fn write_layer<W: Write + Drop>(&self, place: usize, out: &mut W) -> io::Result<()>
+        ensures { Writes W.contents out.old out.new result (layer_notation self.now place) }
+    {
+        match self.paths.get(place) {
+            Some(path) => write_path(path.as_str(), out),
+            None => write_layer(place, out),
+        }
+    }
+}
+
+#[tactic(auto, unfolding(crate::specs::Naming::path_notation))]
+fn write_path<W: Write + Drop>(path: &str, out: &mut W) -> io::Result<()>
+    ensures { Writes W.contents out.old out.new result (path_notation path.now) }
+{
+    let path = path.as_bytes();
+    if is_seen(path) {
+        out.write_all(path)
+    } else {
+        write_quoted(path, out)
+    }
+}
+
+// Whether each character is one of ASCII that is seen.
+fn is_seen(path: &[u8]) -> bool
+    ensures { result ≡ list_all is_ascii_graphic path.now }
+{
+    'bytes: for byte in path {
+        if !byte.is_ascii_graphic() {
+            return false;
+        }
+    }
+    true
+}
