@@ -59,7 +59,7 @@ measure_rest() {
     make_room "$1" "$3" "$2" || return 1
     case $2 in
     tests) measure "$1" "$3" tests rt test --jobs 1 ;;
-    edits) measure "$1" "$3" edits sh -c "cd ../.. && rt must-fail $3" ;;
+    edits) measure "$1" "$3" edits sh -c "cd ../.. && rt must-fail --anew $3" ;;
     *) measure "$1" "$3" "$2" python3 "$copy/tools/rt_once.py" as-ci ;;
     esac
     rm -rf "$1/rooms/$3.$2"
