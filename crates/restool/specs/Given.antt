@@ -36,6 +36,12 @@ abbrev pub IsLineFormGiven : List Row → LineForm → Type 0
 IsLineFormGiven rows Json = IsGiven (codes "json") rows true
 IsLineFormGiven rows (Text form) = IsGiven (codes "json") rows false × IsFormGiven rows form
 
+-- JSON, where the words ask for it, whatever else they ask for; else Android's notation, where they ask for that; else the raw form
+abbrev pub IsAnswerFormGiven : List Row → LineForm → Type 0
+IsAnswerFormGiven rows Json = IsGiven (codes "json") rows true
+IsAnswerFormGiven rows (Text forms.Android) = IsGiven (codes "json") rows false × IsGiven (codes "android") rows true
+IsAnswerFormGiven rows (Text forms.Raw) = IsGiven (codes "json") rows false × IsGiven (codes "android") rows false
+
 -- The number of nodes that a word spells, or the number for a word that is left out. Nothing is said of a word that
 -- spells no number of nodes that may be asked for: such a word is a fault of the command line, and no request is made.
 abbrev pub IsNodeLimit : Option (List ℕ) → ℕ → Type 0

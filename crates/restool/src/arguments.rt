@@ -6,13 +6,13 @@ ghost use Rattle.resource_tool.specs.command_base.names.Named.{named_of};
 ghost use Rattle.clap.specs.Words.{all_of, first_of, found_of, one_of, rows_of};
 ghost use Rattle.json_input.specs.Each.{each};
 ghost use Rattle.restool.specs.AskedWords.{ReadsNamed, ReadsWords, asked_word, named_word};
-ghost use Rattle.restool.specs.Given.{IsFormGiven, IsGiven, IsGoalNumber, IsLineFormGiven, IsNodeLimit, ReadsAlong, ReadsByRule, ReadsRule, word_at, words_at};
+ghost use Rattle.restool.specs.Given.{IsAnswerFormGiven, IsFormGiven, IsGiven, IsGoalNumber, IsLineFormGiven, IsNodeLimit, ReadsAlong, ReadsByRule, ReadsRule, word_at, words_at};
 ghost use Rattle.restool.specs.Request.{locales_at};
 
 use crate::argument_fault::ArgumentFault;
 use crate::asked_words::{Asks, asked_words, named_word};
 use crate::command_line::{
-    Argument, DOT, JSON, LOCALES, MAX_NODES, MOST_NODES, NODES_IF_LEFT_OUT, RAW,
+    Argument, DOT, JSON, LOCALES, MAX_NODES, MOST_NODES, NODES_IF_LEFT_OUT, NOTATION, RAW,
 };
 use clap::ArgMatches;
 use report_commands::{Form, LineForm};
@@ -146,6 +146,19 @@ pub(crate) fn given_line_form(given: &ArgMatches<'_>) -> LineForm
         LineForm::Json
     } else {
         LineForm::Text(given_form(given))
+    }
+}
+
+/// How the lines of an answer are written that is raw where no word asks for another form.
+pub(crate) fn given_answer_form(given: &ArgMatches<'_>) -> LineForm
+    ensures { IsAnswerFormGiven (rows_of (found_of given.now)) result }
+{
+    if given_flag(given, &JSON) {
+        LineForm::Json
+    } else if given_flag(given, &NOTATION) {
+        LineForm::Text(Form::Android)
+    } else {
+        LineForm::Text(Form::Raw)
     }
 }
 
