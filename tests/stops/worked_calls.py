@@ -161,11 +161,6 @@ NODES = (
 OF_STYLES = '{"attr":"0x01010001","nodes":[{"bag":"0x7f010000"}],"styles":["0x7f010002","0x7f010001"]}'
 UNSTYLED = '{"attr":"0x01010001","nodes":[%s],"styles":[]}'
 BLANKS = ' { "version" : 1 , "goals" : [ { "nodes" : [ { "word" : 1 , "layer" : 0 , "kind" : 16 } ] , "id" : "0x7F01000A" } ] } '
-LINES = [
-    ('{"density":320,"uiType":1,"locale":"fil-PH","width":5,"sdk":27}', "b+fil+PH-xhdpi-5x0-v27"),
-    ('{"density":320}', "NoWord uiType"),
-]
-"""Devices, and the lines that Android writes of them."""
 WRITTEN = [
     # A certificate, and how it is written.
     *((text, text) for text in (NO_GOALS, ONE_LEAF, certificate(tree(*NODES), tree(id="0x00000000")))),
@@ -178,7 +173,6 @@ WRITTEN = [
 
 def certificate_rows():
     yield from (row("inputs", "Cert::write", [text], written) for text, written in WRITTEN)
-    yield from (row("inputs", "config_line_by", [text], line) for text, line in LINES)
 
 
 # ---- commands over bytes and a writer; after a fault the number of writes is told

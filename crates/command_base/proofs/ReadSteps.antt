@@ -3,7 +3,7 @@ use Rattle.std.proofs.Common.{◌≡◌, ℕ, Bool, false, List, length, map, Op
 use Rattle.std.specs.List.{enumerate_from}
 use Rattle.std.specs.Prelude.{if◌then◌else◌}
 use Rattle.apk_member.specs.declared.fault.ApkFault.{ApkFault}
-use Rattle.config_words.specs.Printed.{is_printed}
+use Rattle.notation.specs.Printed.{is_printed}
 use Rattle.contract_words.specs.Faults.{◌>>=◌}
 use Rattle.json_input.specs.Each.{each}
 use Rattle.names.specs.WordFile.{file_path_in}

@@ -1,8 +1,8 @@
 -- The text of a device: the word itself, as `am get-config` prints it, or the JSON text of a file.
 use Rattle.std.specs.Prelude.{ℕ, List, Result, Ok, if◌then◌else◌}
 use Rattle.contract_words.specs.Faults.{◌>>=◌}
-use Rattle.config_words.specs.Fault.{FaultOf, NoQualifier, NoDevice}
-use Rattle.config_words.specs.Printed.{is_printed, device_of_printed_by}
+use Rattle.notation.specs.Fault.{FaultOf, NoQualifier, NoDevice}
+use Rattle.notation.specs.Printed.{is_printed, device_of_printed_by}
 use Rattle.command_base.specs.answer_text.config_record.locales.declared.locale_rule.LocaleRule.{LocaleRule}
 use Rattle.command_base.specs.answer_text.config_record.DeviceJson.{device_in_json_by}
 use Rattle.command_base.specs.declared.device_text.DeviceText.{DeviceText}

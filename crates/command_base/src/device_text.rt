@@ -1,7 +1,7 @@
 //! The text of a device: the word itself, as `am get-config` prints it, or the JSON text of a file.
 
 ghost use Rattle.std.specs.Prelude.{◌≡◌, IfSome};
-ghost use Rattle.config_words.specs.Fault.{fault_of};
+ghost use Rattle.notation.specs.Fault.{fault_of};
 ghost use Rattle.command_base.specs.DeviceText.{stop_of_words};
 ghost use Rattle.command_base.specs.Stop.{GivesOrStops, stop_of};
 
@@ -10,7 +10,7 @@ use crate::inputs::{Inputs, file_bytes};
 use crate::stop::Stop;
 use answer_text::Device;
 use cert_tree::LocaleRule;
-use config_words::{ConfigWordFault, is_printed, read_printed_by};
+use notation::{ConfigWordFault, is_printed, read_printed_by};
 use std::alloc::Global;
 
 /// The text of a device.

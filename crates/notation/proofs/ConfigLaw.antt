@@ -11,7 +11,7 @@ use Rattle.config_record.specs.declared.coord.Coord.{Coord}
 use Rattle.config_record.specs.declared.coord.Coord.TheVariants as coords
 use Rattle.config_record.specs.Coord.{place_of}
 use Rattle.config_record.specs.Record.{byte, two_bytes, coordinate, locale_in, locale_script, locale_variant}
-use Rattle.config_words.specs.LineParts.{line_order}
+use Rattle.notation.specs.LineParts.{line_order}
 use Rattle.notation.specs.ConfigText.{parts_at, config_parts, parts_text, config_text}
 use Rattle.notation.specs.SameConfig.{IsSameConfig}
 use Rattle.notation.proofs.Digits.{filter-all, filter-none, any-none}

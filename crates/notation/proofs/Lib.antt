@@ -1,3 +1,15 @@
+pub mod PartSteps
+pub mod SaidSteps
+pub mod DeviceSteps
+pub mod NumberSteps
+pub mod GivenSteps
+pub mod PlainText
+pub mod JsonPrint
+pub mod JsonFound
+pub mod JsonBack
+pub mod OrderSteps
+pub mod RuleSteps
+pub mod LineRule
 mod PartsWritten
 pub mod DecimalSteps
 mod Digits

@@ -17,10 +17,9 @@ use Rattle.config_record.specs.locales.declared.locale.Locale.{Locale}
 use Rattle.config_record.specs.locales.Zero.{is_zero}
 use Rattle.config_record.specs.locales.Locale.{dash, first_letter, first_digit, is_small_letter, is_capital_letter, is_digit, unpacked, is_spelled, language_text}
 use Rattle.config_record.specs.locales.Text.{is_dash, locale_text, written_script}
-use Rattle.config_words.specs.Cut.{cut_at}
-use Rattle.config_words.specs.LineParts.{behind_sign}
-use Rattle.config_words.specs.Words.{words, find_word}
-use Rattle.config_words.specs.Forms.{forms}
+use Rattle.notation.specs.Cut.{cut_at, behind_sign}
+use Rattle.notation.specs.Words.{words, find_word}
+use Rattle.notation.specs.Forms.{forms}
 use Rattle.notation.specs.LocaleParts.{is_language, is_script, is_variant, is_written_variant, is_variant_letter, are_zeros, variant_text, are_letters, is_other_word, script_behind, variant_behind, tag_text, letters_text, named_parts, locale_parts}
 use Rattle.notation.proofs.Digits.{letters_of, filter-all, filter-none, any-none, all-not, no_mark, is_no_digit}
 use Rattle.notation.proofs.Pieces.{pieces_of, pieces_of-whole, split_at, split_at-append, split_at-whole, any-pieces, all_are, Three, three-same}

@@ -10,7 +10,7 @@ use Rattle.config_record.specs.locales.declared.locale.Locale.{Locale}
 use Rattle.config_record.specs.locales.Zero.{is_zero}
 use Rattle.config_record.specs.locales.Locale.{dash, first_letter, first_digit, is_small_letter, is_capital_letter, is_digit, unpacked, is_spelled, language_of, region_of, language_text, region_text, plain_text, without_script}
 use Rattle.config_record.specs.locales.Text.{locale_text}
-use Rattle.config_words.specs.Cut.{cut_at, cut_at_place}
+use Rattle.notation.specs.Cut.{cut_at, cut_at_place}
 use Rattle.notation.specs.LocaleParts.{is_language}
 use Rattle.notation.proofs.Digits.{no_mark}
 

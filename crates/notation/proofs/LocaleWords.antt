@@ -14,8 +14,7 @@ use Rattle.config_record.specs.locales.Locale.{dash, is_small_letter, is_capital
 use Rattle.config_record.specs.locales.LocaleNumber.{locale_number, locale_of_number}
 use Rattle.config_record.specs.locales.Text.{written_script, language_alone, region_alone, shows_script, likely_number, locale_by, locale_text, IsGiven, IsGivenBy}
 use Rattle.config_record.specs.locales.Words.{number_of_script}
-use Rattle.config_words.specs.Cut.{cut_at}
-use Rattle.config_words.specs.LineParts.{behind_sign}
+use Rattle.notation.specs.Cut.{cut_at, behind_sign}
 use Rattle.notation.specs.LocaleParts.{is_other_word}
 use Rattle.notation.specs.LocaleWord.{is_region, plus, with_plus, word_by, text_word, locale_word}
 use Rattle.notation.specs.DevicesNotation.{comma}

@@ -13,8 +13,8 @@ use Rattle.config_record.specs.declared.coord.Coord.TheVariants as coords
 use Rattle.config_record.specs.Coord.{all_coords, name_of, place_of}
 use Rattle.config_record.specs.locales.Locale.{dash, is_digit}
 use Rattle.config_record.specs.locales.Text.{is_dash}
-use Rattle.config_words.specs.Words.{WordOf, words, find_word, word_for}
-use Rattle.config_words.specs.Forms.{forms, form_for}
+use Rattle.notation.specs.Words.{WordOf, words, find_word, word_for}
+use Rattle.notation.specs.Forms.{forms, form_for}
 use Rattle.notation.specs.NumberWord.{letters_at, number_word}
 use Rattle.notation.specs.ConfigText.{number_parts}
 use Rattle.notation.proofs.Digits.{letters_of, digits_of, Around, letters_around, digits_around, some_around, apart, none_around}

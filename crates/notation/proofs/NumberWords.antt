@@ -10,9 +10,9 @@ use Rattle.config_record.specs.declared.coord.Coord.{Coord}
 use Rattle.config_record.specs.declared.coord.Coord.TheVariants as coords
 use Rattle.config_record.specs.Coord.{name_of, place_of}
 use Rattle.config_record.specs.locales.Locale.{is_digit}
-use Rattle.config_words.specs.Cut.{cut_at}
-use Rattle.config_words.specs.Words.{words, word_for}
-use Rattle.config_words.specs.Forms.{forms, form_for}
+use Rattle.notation.specs.Cut.{cut_at}
+use Rattle.notation.specs.Words.{words, word_for}
+use Rattle.notation.specs.Forms.{forms, form_for}
 use Rattle.config_box.specs.box_answers.NumberSet.{SetOf, RangeOf, NumbersOf, LocalesOf}
 use Rattle.notation.specs.NumberWord.{letters_at, in_letters, number_word}
 use Rattle.notation.specs.DevicesNotation.{comma, begins_with, ends_with, range_text}

@@ -11,9 +11,9 @@ use Rattle.std.proofs.lemmas.List.Folds.{list_any-append}
 use Rattle.config_record.specs.locales.Locale.{dash, is_digit}
 use Rattle.config_record.specs.locales.Text.{is_dash}
 use Rattle.config_record.specs.Coord.{place_of}
-use Rattle.config_words.specs.Words.{words}
-use Rattle.config_words.specs.Forms.{forms}
-use Rattle.config_words.specs.LineParts.{size_part, version_part, minor_text}
+use Rattle.notation.specs.Words.{words}
+use Rattle.notation.specs.Forms.{forms}
+use Rattle.notation.specs.LineParts.{size_part, version_part, minor_text}
 use Rattle.notation.proofs.Digits.{is_no_digit, letters_of, letters_of-decimal, has_digit, unmarked}
 use Rattle.notation.proofs.Pieces.{pieces_of, pieces_of-whole, split_at, split_at-append, split_at-whole}
 use Rattle.notation.proofs.PieceKinds.{is_equals, is_bracket, kind_said, kind_of, kind_of-number, number_rows, word_rows}

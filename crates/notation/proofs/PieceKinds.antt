@@ -8,8 +8,8 @@ use Rattle.std.proofs.lemmas.Slice.Eq.{bytes_eq-Decides}
 use Rattle.config_record.specs.declared.coord.Coord.{Coord}
 use Rattle.config_record.specs.Coord.{all_coords, name_of, place_of}
 use Rattle.config_record.specs.locales.Locale.{is_digit}
-use Rattle.config_words.specs.Words.{WordOf, words, find_word, word_for}
-use Rattle.config_words.specs.Forms.{FormOf, forms}
+use Rattle.notation.specs.Words.{WordOf, words, find_word, word_for}
+use Rattle.notation.specs.Forms.{FormOf, forms}
 use Rattle.notation.proofs.Digits.{letters_of, is_no_digit, filter-all, all-not}
 
 abbrev pub is_equals : ℕ → Bool

@@ -10,7 +10,7 @@ use Rattle.std.proofs.lemmas.List.{append-nil, take-append-drop}
 use Rattle.std.proofs.lemmas.List.Folds.{list_any-append}
 use Rattle.std.proofs.lemmas.Slice.Eq.{bytes_eq-Decides}
 use Rattle.hex.specs.Hex.{encode_lower, encode_with, IsBytes}
-use Rattle.config_words.specs.Cut.{cut_at}
+use Rattle.notation.specs.Cut.{cut_at}
 use Rattle.res_value.specs.declared.value.Value.{Value}
 use Rattle.res_value.specs.declared.res_id.ResId.{ResId}
 use Rattle.res_value.specs.Word.{word_text, eight_digits}

@@ -6,7 +6,7 @@ use Rattle.config_record.specs.declared.coord.Coord.{Coord}
 use Rattle.config_record.specs.declared.coord.Coord.TheVariants as coords
 use Rattle.config_record.specs.locales.Locale.{dash}
 use Rattle.config_record.specs.Record.{coordinate, locale_in, locale_script, locale_variant}
-use Rattle.config_words.specs.LineParts.{size_part, version_part, line_order}
+use Rattle.notation.specs.LineParts.{size_part, version_part, line_order}
 use Rattle.notation.specs.NumberWord.{number_word}
 use Rattle.notation.specs.LocaleParts.{locale_parts}
 
@@ -21,7 +21,7 @@ parts_at r coords.Width = option_to_list (size_part (coordinate r coords.Width) 
 parts_at r coords.Sdk = option_to_list (version_part (coordinate r coords.Sdk) (coordinate r coords.Minor))
 parts_at r coord = number_parts coord (coordinate r coord)
 
--- in the order of the parts of a line (LineParts.antt of config_words)
+-- in the order of the parts of a line (LineParts.antt)
 unfoldable pub config_parts : List ℕ → List (List ℕ)
 config_parts r = flat_map (parts_at r) line_order
 

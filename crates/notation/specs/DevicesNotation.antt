@@ -5,7 +5,7 @@ use Rattle.std.specs.Fmt.{decimal}
 use Rattle.config_record.specs.declared.coord.Coord.{Coord}
 use Rattle.config_record.specs.declared.coord.Coord.TheVariants as coords
 use Rattle.config_record.specs.Coord.{all_coords}
-use Rattle.config_words.specs.LineParts.{line_order}
+use Rattle.notation.specs.LineParts.{line_order}
 use Rattle.config_box.specs.box_answers.NumberSet.{SetOf, RangeOf, NumbersOf, LocalesOf}
 use Rattle.config_box.specs.box_answers.Members.{set_at}
 use Rattle.notation.specs.NumberWord.{LettersOf, letters_at, in_letters, number_word}

@@ -7,9 +7,8 @@ use Rattle.config_record.specs.locales.Zero.{is_zero}
 use Rattle.config_record.specs.locales.Locale.{dash, is_small_letter, is_digit}
 use Rattle.config_record.specs.locales.Text.{written_script, locale_text}
 use Rattle.config_record.specs.Qualifiers.{locale_qualifier, bytes_qualifier}
-use Rattle.config_words.specs.Cut.{cut_at}
-use Rattle.config_words.specs.LineParts.{behind_sign}
-use Rattle.config_words.specs.Words.{words, find_word}
+use Rattle.notation.specs.Cut.{cut_at, behind_sign}
+use Rattle.notation.specs.Words.{words, find_word}
 
 -- ---- what letters can say
 

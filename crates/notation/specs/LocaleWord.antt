@@ -4,8 +4,7 @@ use Rattle.std.specs.List.{flat_map}
 use Rattle.config_record.specs.locales.Locale.{dash}
 use Rattle.config_record.specs.locales.LocaleNumber.{locale_of_number}
 use Rattle.config_record.specs.locales.Text.{locale_text}
-use Rattle.config_words.specs.Cut.{cut_at}
-use Rattle.config_words.specs.LineParts.{behind_sign}
+use Rattle.notation.specs.Cut.{cut_at, behind_sign}
 use Rattle.notation.specs.LocaleParts.{is_other_word}
 
 -- A locale's text is its language, and behind dashes a script and a region, where it shows them.

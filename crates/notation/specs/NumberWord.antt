@@ -4,8 +4,8 @@ use Rattle.std.specs.Fmt.{decimal}
 use Rattle.config_record.specs.declared.coord.Coord.{Coord}
 use Rattle.config_record.specs.declared.coord.Coord.TheVariants as coords
 use Rattle.config_record.specs.Coord.{name_of}
-use Rattle.config_words.specs.Words.{words, word_for}
-use Rattle.config_words.specs.Forms.{FormOf, forms, form_for}
+use Rattle.notation.specs.Words.{words, word_for}
+use Rattle.notation.specs.Forms.{FormOf, forms, form_for}
 use Rattle.notation.specs.declared.number_word.Letters.{Letters}
 
 -- what stands before a number and behind it; the sign is left out where another one stands there

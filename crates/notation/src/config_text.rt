@@ -1,25 +1,22 @@
 //! Stored configurations, as the folders of their resources are called.
 
 ghost use Rattle.std.specs.Prelude.{◌≡◌, ◌≢◌, ℕ, List, ◌∷◌, ◌++◌, [], true, if◌then◌else◌, codes, OnOk};
-ghost use Rattle.std.specs.Fmt.{decimal};
 ghost use Rattle.std.specs.List.{flat_map};
-ghost use Rattle.std.specs.Option.{option_to_list};
 ghost use Rattle.hex.specs.Hex.{IsBytes};
 ghost use Rattle.contract_words.specs.Writes.{Writes};
 ghost use Rattle.config_record.specs.locales.Locale.{dash};
 ghost use Rattle.config_record.specs.Coord.{name_of};
 ghost use Rattle.config_record.specs.Qualifiers.{qualifier};
 ghost use Rattle.config_record.specs.Record.{record_bytes};
-ghost use Rattle.config_words.specs.LineParts.{size_part, version_part};
 ghost use Rattle.notation.specs.Dashes.{WritesParts};
 ghost use Rattle.notation.specs.SameConfig.{IsSameConfig};
 ghost use Rattle.notation.specs.ConfigText.{number_parts, parts_at, config_parts, config_text};
 
+use crate::line_parts::{PART_ORDER, write_size, write_version};
 use crate::locale_parts::write_locale_parts;
 use crate::number_word::write_number_word;
 use crate::separator::write_separator;
 use config_record::{Coord, Record};
-use config_words::PART_ORDER;
 use std::io::{self, Write};
 
 /// Writes what is not zero, in the words of Android and in its order, with dashes between them; `(default)` where all is.
@@ -36,7 +33,7 @@ pub fn write_config<W: Write + Drop>(config: &Record<'_>, out: &mut W) -> io::Re
     write_text(config, out)
 }
 
-#[tactic(auto, unfolding(crate::specs::ConfigText::config_text, crate::specs::ConfigText::config_parts, config_words::specs::LineParts::line_order))]
+#[tactic(auto, unfolding(crate::specs::ConfigText::config_text, crate::specs::ConfigText::config_parts, crate::specs::LineParts::line_order))]
 fn write_text<W: Write + Drop>(config: &Record<'_>, out: &mut W) -> io::Result<()>
     ensures { Writes W.contents out.old out.new result (config_text (record_bytes config.now)) }
 {
@@ -101,42 +98,4 @@ fn write_number<W: Write + Drop>(
     }
     write_separator(b'-', due, out)?;
     write_number_word(coord, number, out)
-}
-
-#[tactic(auto, unfolding(config_words::specs::LineParts::size_part, config_record::specs::Separator::continued))]
-fn write_size<W: Write + Drop>(
-    width: u32,
-    height: u32,
-    due: &mut bool,
-    out: &mut W,
-) -> io::Result<()>
-    ensures { OnOk result (WritesParts due.old due.new (W.contents out.old) (W.contents out.new)
-        (option_to_list (size_part width height))) }
-{
-    if width == 0 && height == 0 {
-        return Ok(());
-    }
-    write_separator(b'-', due, out)?;
-    write!(out, "{width}x{height}")
-}
-
-#[tactic(auto, unfolding(config_words::specs::LineParts::version_part, config_record::specs::Separator::continued))]
-fn write_version<W: Write + Drop>(
-    sdk: u32,
-    minor: u32,
-    due: &mut bool,
-    out: &mut W,
-) -> io::Result<()>
-    ensures { OnOk result (WritesParts due.old due.new (W.contents out.old) (W.contents out.new)
-        (option_to_list (version_part sdk minor))) }
-{
-    if sdk == 0 && minor == 0 {
-        return Ok(());
-    }
-    write_separator(b'-', due, out)?;
-    if minor == 0 {
-        write!(out, "v{sdk}")
-    } else {
-        write!(out, "v{sdk}.{minor}")
-    }
 }

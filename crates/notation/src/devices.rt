@@ -6,10 +6,10 @@ ghost use Rattle.contract_words.specs.Writes.{Writes};
 ghost use Rattle.notation.specs.DevicesLaw.{DevicesAreNamed, SetsAreTold};
 ghost use Rattle.notation.specs.DevicesNotation.{narrower_text, both_text, devices_text};
 
+use crate::line_parts::PART_ORDER;
 use crate::narrower::{is_narrower, is_narrower_at_one};
 use crate::set_text::write_set;
 use config_box::{ConfigBox, Coord};
-use config_words::PART_ORDER;
 use std::io::{self, Write};
 
 /// Writes which devices a part of a box has: at each coordinate at which it has fewer numbers than the whole, in Android's
@@ -35,7 +35,7 @@ pub fn write_devices<W: Write + Drop>(
     write_text(whole, part, out)
 }
 
-#[tactic(auto, unfolding(crate::specs::DevicesNotation::devices_text, config_words::specs::LineParts::line_order))]
+#[tactic(auto, unfolding(crate::specs::DevicesNotation::devices_text, crate::specs::LineParts::line_order))]
 fn write_text<W: Write + Drop>(whole: &ConfigBox, part: &ConfigBox, out: &mut W) -> io::Result<()>
     ensures { Writes W.contents out.old out.new result (devices_text whole.now part.now) }
 {

@@ -8,15 +8,15 @@ ghost use Rattle.config_record.specs.Record.{record_bytes, locale_in, locale_scr
 ghost use Rattle.config_record.specs.locales.Zero.{is_zero};
 ghost use Rattle.config_record.specs.locales.Text.{written_script};
 ghost use Rattle.config_record.specs.locales.Locale.{dash};
-ghost use Rattle.config_words.specs.Cut.{cut_at};
-ghost use Rattle.config_words.specs.LineParts.{behind_sign};
+ghost use Rattle.notation.specs.Cut.{cut_at, behind_sign};
 ghost use Rattle.notation.specs.Dashes.{WritesParts};
 ghost use Rattle.notation.specs.LocaleParts.{is_language, is_script, variant_text, is_variant_letter, are_zeros, is_written_variant, is_variant, are_letters, is_other_word, script_behind, variant_behind, tag_text, letters_text, named_parts, parts_by_letters, locale_parts};
 
+use crate::cut::cut_at;
 use crate::separator::write_separator;
+use crate::words::is_word;
 use arrayvec::ArrayVec;
 use config_record::{Coord, Locale, Record, write_locale};
-use config_words::{cut_at, is_word};
 use locales::{is_zero, write_hex};
 use std::io::{self, Write};
 

@@ -4,17 +4,18 @@ ghost use Rattle.std.specs.Prelude.{◌≡◌, option_map, OnOk};
 ghost use Rattle.std.specs.List.{flat_map};
 ghost use Rattle.contract_words.specs.Writes.{Writes};
 ghost use Rattle.config_record.specs.locales.Locale.{dash};
-ghost use Rattle.config_words.specs.Cut.{cut_at};
+ghost use Rattle.notation.specs.Cut.{cut_at};
 ghost use Rattle.notation.specs.LocaleWord.{is_region, with_plus, word_by, text_word, locale_word};
 
+use crate::cut::cut_at;
 use crate::locale_parts::write_behind;
+use crate::words::is_word;
 use arrayvec::ArrayVec;
 use config_record::{Locale, write_locale};
-use config_words::{cut_at, is_word};
 use std::io::{self, Write};
 
 /// The length of the longest text of a locale: a language and a region of which neither is in letters, and a script.
-const LONGEST: usize = 23;
+pub(crate) const LONGEST: usize = 23;
 
 /// Writes the word of a locale, by its number: `es-rMX`, or `b+sr+Latn+RS` where a script is shown, or `no-locale`.
 #[tactic(auto, unfolding(crate::specs::LocaleWord::locale_word))]
@@ -64,8 +65,9 @@ fn is_region(text: Option<&[u8]>) -> bool
     }
 }
 
+/// Writes a text with a plus for each dash.
 #[tactic(auto, using(contract_words::proofs::TextSteps::puts))]
-fn write_with_pluses<W: Write + Drop>(text: &[u8], out: &mut W) -> io::Result<()>
+pub(crate) fn write_with_pluses<W: Write + Drop>(text: &[u8], out: &mut W) -> io::Result<()>
     ensures { Writes W.contents out.old out.new result (flat_map with_plus text.now) }
 {
     for byte in text {

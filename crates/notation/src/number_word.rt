@@ -3,11 +3,12 @@
 ghost use Rattle.std.specs.Prelude.{◌≡◌, OnOk};
 ghost use Rattle.std.specs.Fmt.{decimal};
 ghost use Rattle.contract_words.specs.Writes.{Writes};
-ghost use Rattle.config_words.specs.Forms.{forms, form_for};
+ghost use Rattle.notation.specs.Forms.{forms, form_for};
 ghost use Rattle.notation.specs.NumberWord.{letters_of, letters_by, letters_at, in_letters, number_text, number_word};
 
+use crate::forms::form_for;
+use crate::words::word_for;
 use config_record::Coord;
-use config_words::{form_for, word_for};
 use std::io::{self, Write};
 
 /// What stands before a number and behind it. The sign is left out where another one stands there.

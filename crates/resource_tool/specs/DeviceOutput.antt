@@ -1,10 +1,10 @@
 -- What the command `device` prints, and what its words ask.
 use Rattle.std.specs.Prelude.{ℕ, List, Bool, true, false, Option, Result, Ok}
 use Rattle.contract_words.specs.Faults.{◌>>=◌}
-use Rattle.config_words.specs.declared.line.NoLine.{NoLine}
-use Rattle.config_words.specs.declared.line.NoLine.TheVariants.{NoWord, OutOfMemory}
-use Rattle.config_words.specs.JsonText.{device_json}
-use Rattle.config_words.specs.Printed.{printed_of_by}
+use Rattle.notation.specs.declared.line.NoLine.{NoLine}
+use Rattle.notation.specs.declared.line.NoLine.TheVariants.{NoWord, OutOfMemory}
+use Rattle.notation.specs.JsonText.{device_json}
+use Rattle.notation.specs.Printed.{printed_of_by}
 use Rattle.command_base.specs.answer_text.config_record.locales.declared.locale_rule.LocaleRule.{LocaleRule}
 use Rattle.command_base.specs.declared.fault.ToolFault.TheVariants as faults
 use Rattle.command_base.specs.declared.status.Status.{Status}

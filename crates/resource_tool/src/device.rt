@@ -6,14 +6,14 @@ ghost use Rattle.command_base.specs.CarriesOut.{IsKept};
 ghost use Rattle.command_base.specs.FilesSeen.{bytes_of};
 ghost use Rattle.command_base.specs.Stop.{GivesOrStops};
 ghost use Rattle.command_base.specs.declared.fault.ToolFault.TheVariants.{Write};
-ghost use Rattle.config_words.specs.JsonText.{device_json};
+ghost use Rattle.notation.specs.JsonText.{device_json};
 ghost use Rattle.resource_tool.specs.DeviceOutput.{PrintsDevice, config_of, device_form};
 
 use crate::text::print_text;
 use command_base::{
     Device, DeviceText, Inputs, LocaleRule, Status, Stop, ToolFault, status_or_stop,
 };
-use config_words::{NoLine, print_config_by, write_device_json};
+use notation::{NoLine, print_config_by, write_device_json};
 use std::alloc::Global;
 use std::io::Write;
 

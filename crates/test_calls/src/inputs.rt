@@ -1,8 +1,7 @@
-//! Calls over the bytes of tables, of certificates and of devices, over as many layers as there can be, and of parts.
+//! Calls over the bytes of tables and of certificates, over as many layers as there can be, and of parts.
 
 mod certificates;
 mod full;
-mod lines;
 mod parts;
 mod tables;
 
@@ -17,7 +16,6 @@ pub fn call(rt: &HostRuntime, words: &[String]) -> Result<(), Fail> {
         "Pool::spans" => tables::spans(rt, given, word(words, 2)),
         "Table::find" => tables::names(rt, given),
         "Cert::write" => certificates::written(rt, given),
-        "config_line_by" => lines::line(rt, given),
         "Device::check" => parts::device(rt),
         "Goal::attr" => parts::goal(rt),
         "Stack::push_base" => full::base(rt, given),

@@ -3,7 +3,7 @@
 use crate::hints::members::{Member, coord_named, say_no_number, say_no_qualifier};
 use crate::hints::text::{Hint, text_of};
 use command_base::{Coord, LocaleRule};
-use config_words::read_config_by;
+use notation::read_config_by;
 use serde_json::Value;
 use std::alloc::Global;
 use std::str;

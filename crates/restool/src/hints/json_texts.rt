@@ -13,8 +13,8 @@ use crate::hints::text::Hint;
 use command_base::{
     BoxFault, Coord, DeviceFault, Inputs, LayersFault, LocaleRule, Side, ToolFault,
 };
-use config_words::is_printed;
 use json_input::read_value;
+use notation::is_printed;
 use serde_json::Value;
 use std::alloc::Global;
 

@@ -2,7 +2,7 @@
 
 use crate::hints::text::{Hint, text_of};
 use command_base::{Coord, LocaleRule};
-use config_words::read_config_by;
+use notation::read_config_by;
 use std::alloc::Global;
 
 /// Says what a qualifier takes in place of what stands there, and what its numbers mean.

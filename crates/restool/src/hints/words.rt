@@ -4,8 +4,8 @@ use crate::hints::Asked;
 use crate::hints::members::is_short;
 use crate::hints::text::{Hint, text_of};
 use command_base::{Inputs, LocaleRule, Named};
-use config_words::{ConfigWordFault, read_config_by};
 use names::file_path;
+use notation::{ConfigWordFault, read_config_by};
 use std::alloc::Global;
 use std::str;
 

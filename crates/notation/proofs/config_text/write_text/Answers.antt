@@ -1,5 +1,5 @@
 use Rattle.std.proofs.lemmas.Result.{on_ok_weaker}
-use Rattle.config_words.specs.LineParts.{line_order}
+use Rattle.notation.specs.LineParts.{line_order}
 use Rattle.notation.specs.ConfigText.{config_parts, config_text}
 use Rattle.notation.proofs.PartsWritten.{some_written, none_written}
 use Rattle.notation.proofs.config_text.write_text.Goals as goal

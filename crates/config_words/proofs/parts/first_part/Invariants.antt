@@ -1,6 +1,0 @@
-use Rattle.config_words.proofs.PartSteps.{NoEndBefore}
-use Rattle.config_words.proofs.parts.first_part.Given as goal
-
--- no part has ended so far
-abbrev pub invariant-bytes : goal.invariant-bytes
-invariant-bytes l = NoEndBefore l.place l.line

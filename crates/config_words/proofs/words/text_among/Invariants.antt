@@ -1,7 +1,0 @@
-use Rattle.std.proofs.Common.{◌≡◌, map, drop}
-use Rattle.config_words.specs.Words.{word_of, word_for}
-use Rattle.config_words.proofs.words.text_among.Given as goal
-
--- no word so far is the number
-abbrev pub invariant-words : goal.invariant-words
-invariant-words l = word_for (map word_of (drop l.word-index l.words)) l.coord l.number ≡ word_for (map word_of l.words) l.coord l.number

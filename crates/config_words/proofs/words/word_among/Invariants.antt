@@ -1,7 +1,0 @@
-use Rattle.std.proofs.Common.{◌≡◌, map, drop}
-use Rattle.config_words.specs.Words.{word_of, find_word}
-use Rattle.config_words.proofs.words.word_among.Given as goal
-
--- no word so far is the text
-abbrev pub invariant-words : goal.invariant-words
-invariant-words l = find_word (map word_of (drop l.word-index l.words)) l.text ≡ find_word (map word_of l.words) l.text
