@@ -5,4 +5,5 @@ pub use Rattle.cert_maker.proofs.cert_tree
 pub mod NamingSteps
 pub mod LineSteps
 pub mod NoFloat
+pub mod NoFloatLines
 pub mod Mapped

@@ -106,7 +106,7 @@ set-no_float (RangeOf low high) = put-no_float (codes "to") (number_data high) (
 set-no_float (NumbersOf numbers) = items-no_float number_data (λ number. refl) numbers
 set-no_float (LocalesOf numbers) = items-no_float locale_data (λ number. refl) numbers
 
-either : (b : Bool) (ms others : Members) → NoFloat ms → NoFloat others → NoFloat (if b then ms else others)
+pub either : (b : Bool) (ms others : Members) → NoFloat ms → NoFloat others → NoFloat (if b then ms else others)
 either true ms others first second = first
 either false ms others first second = second
 

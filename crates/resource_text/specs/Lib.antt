@@ -21,6 +21,10 @@ pub mod TextJson
 pub mod ContentJson
 pub mod DevicesJson
 pub mod ChangeJson
+pub mod ConfigJson
+pub mod LineJson
+pub mod EndJson
+pub mod ExplainJson
 pub mod ChangeBlock
 pub mod Unfolded
 pub use Rattle.cert_maker.specs as cert_maker

@@ -57,8 +57,8 @@ fn label_json(
 
 // ---- values
 
-// What a value says, as `{"kind":5,"word":4097,"xml":"16dp"}`.
-fn value_json(
+/// What a value says, as `{"kind":5,"word":4097,"xml":"16dp"}`.
+pub(crate) fn value_json(
     alloc: Global,
     packages: &PackageNames<'_>,
     value: &ValueContent<'_>,

@@ -4,7 +4,8 @@ ghost use Rattle.std.specs.Prelude.{◌≡◌, map, fold, IfOk, OnOk};
 ghost use Rattle.serde_json.specs.View.{view, members_view};
 ghost use Rattle.config_box.specs.BoxSeen.{values_seen};
 ghost use Rattle.config_box.specs.box_answers.NumberSet.{RangeOf, locale_numbers};
-ghost use Rattle.resource_text.specs.TextJson.{number_data};
+ghost use Rattle.config_box.specs.config_record.locales.Text.{locale_text};
+ghost use Rattle.resource_text.specs.TextJson.{text_data, number_data};
 ghost use Rattle.resource_text.specs.DevicesJson.{locale_data, set_data, with_narrower, devices_data};
 
 use crate::text_json::text_json;
@@ -105,18 +106,18 @@ fn locales_json(alloc: Global, locales: &[Locale]) -> Result<Vec<Value>, AllocEr
 {
     let mut values = Vec::with_capacity(alloc, locales.len())?;
     for locale in locales {
-        let value = locale_json(alloc, locale.number())?;
+        let value = locale_json(alloc, Locale::of_number(locale.number()))?;
         values.push(value)?;
     }
     Ok(values)
 }
 
-// The text of the locale that has this number.
-fn locale_json(alloc: Global, number: u64) -> Result<Value, AllocError>
-    ensures { IfOk result (λ value. view value ≡ locale_data number) }
+/// The text of a locale; that of a device without one is empty.
+pub(crate) fn locale_json(alloc: Global, locale: Locale) -> Result<Value, AllocError>
+    ensures { IfOk result (λ value. view value ≡ text_data (locale_text locale)) }
 {
     let mut text = Vec::new(alloc);
-    match write_locale(Locale::of_number(number), &mut text) {
+    match write_locale(locale, &mut text) {
         Ok(()) => text_json(alloc, &text),
         // To a `Vec` only a want of memory is a fault.
         Err(_) => Err(AllocError),

@@ -22,9 +22,9 @@ use std::io::{self, Write};
 
 /// A candidate, and what it does to the best before it and why.
 #[derive(Clone, Copy)]
-struct Traced<'a> {
-    candidate: Cand<'a>,
-    decision: Decision,
+pub(crate) struct Traced<'a> {
+    pub candidate: Cand<'a>,
+    pub decision: Decision,
 }
 
 /// How an id comes to its end for a device: a line for each id that is looked up, behind it one for each of its candidates that
@@ -103,8 +103,8 @@ fn write_look_up<W: Write + Drop>(
     write_candidates(naming, all, &candidates, out)
 }
 
-// The candidates of an id, with what each does.
-fn traced_candidates<'a>(
+/// The candidates of an id, with what each does.
+pub(crate) fn traced_candidates<'a>(
     alloc: Global,
     stack: &Stack<'a>,
     id: ResId,

@@ -4,11 +4,12 @@
 //! For the crates above: each text is the one that `specs/` defines of its value. What is written straight to a writer, such as a
 //! verdict, appends this text and nothing else, and the only error is the writer's. An answer in Android's notation is made in
 //! memory, so that where that runs out nothing of it is written; `change_block` gives the lines that stand behind the name of a
-//! resource, for people in either form, or the text of a JSON object.
+//! resource, for people in either form, or the text of a JSON object. Ends and explanations are also given as lines of JSON.
 //!
 //! ```text
 //! let naming = Naming::of(alloc, &stack, &paths)?;
 //! ends_text(&naming, &device, &ids)?; // dimen/handle 13dp from teapot.apk xhdpi-v4
+//! ends_json(&naming, &device, &ids)?; // {"end":{"from":{..},"value":{..}},"id":"0x7f030000","line":"end","name":"dimen/handle"}
 //! verdict_text(&verdict, &certificate, &mut out)?; // accepted goals 1 nodes 3
 //! change_block(alloc, LineForm::Text(Form::Android), &packages, &difference, &phones, &german)?;
 //!                                           //  "Cancel" -> "Cancel!" on de-rAT,de-rCH
@@ -19,6 +20,7 @@ mod attribute;
 mod block;
 mod change_json;
 mod columns;
+mod config_json;
 mod content_json;
 mod content_text;
 mod decision_words;
@@ -27,11 +29,14 @@ mod devices_json;
 mod devices_text;
 mod difference_text;
 mod dump;
+mod end_json;
 mod ends;
 mod explanation;
+mod explanation_json;
 mod goal;
 mod last;
 mod line_form;
+mod line_json;
 mod lone_table;
 mod look_ups;
 mod naming;
@@ -52,9 +57,12 @@ pub use cert_maker::{
 pub use command_base::{LayersFault, Side, ToolFault, fault_text};
 pub use content_json::name_json;
 pub use dump::dump_in_notation;
+pub use end_json::ends_json;
 pub use ends::ends_text;
 pub use explanation::explain_text;
+pub use explanation_json::explain_json;
 pub use line_form::LineForm;
+pub use line_json::write_set_aside_json;
 pub use naming::Naming;
 pub use rejection::{Rejection, write_rejections_in, write_verdict_in};
 pub use rows::rows_in_notation;

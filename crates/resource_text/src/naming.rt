@@ -6,11 +6,14 @@ ghost use Rattle.std.specs.Char.{is_ascii_graphic};
 ghost use Rattle.contract_words.specs.Writes.{Writes};
 ghost use Rattle.resource_text.specs.Naming.{path_notation};
 
+use crate::content_json::value_json;
+use crate::text_json::text_json;
 use answer_text::{
-    BagRow, Keys, ResId, RowKey, Stack, Value, value_content, write_key_notation, write_layer,
-    write_row_notation, write_value_notation,
+    BagRow, Keys, ResId, RowKey, Stack, Value, value_content, write_id, write_key_notation,
+    write_layer, write_row_notation, write_value_notation,
 };
 use names::{NamedStack, PackageNames, write_quoted};
+use serde_json::{self, Map, put};
 use std::alloc::{AllocError, Global};
 use std::io::{self, Write};
 use std::marker::Model;
@@ -37,8 +40,10 @@ impl<'s, 'a, 'p> Model for Naming<'s, 'a, 'p> {
 }
 
 impl<'s, 'a, 'p> Naming<'s, 'a, 'p> {
-    ghost use Rattle.std.specs.Prelude.{◌≡◌, map, string_bytes, IfOk};
+    ghost use Rattle.std.specs.Prelude.{◌≡◌, map, string_bytes, IfOk, OnOk};
     ghost use Rattle.contract_words.specs.Writes.{Writes};
+    ghost use Rattle.serde_json.specs.View.{view, members_view};
+    ghost use Rattle.resource_text.specs.EndJson.{name_data, with_id, value_data_at, with_layer};
     ghost use Rattle.resource_text.specs.Naming.{id_notation, value_at, key_and_value, row_at, layer_notation};
     ghost use Rattle.answer_text.specs.ContentSeen.{row_key_of};
     ghost use Rattle.answer_text.specs.ValueContent.{value_content};
@@ -143,6 +148,71 @@ impl<'s, 'a, 'p> Naming<'s, 'a, 'p> {
             Some(path) => write_path(path.as_str(), out),
             None => write_layer(place, out),
         }
+    }
+
+    // ---- as JSON
+
+    /// What an id is called.
+    pub(crate) fn name_json(&self, id: ResId) -> Result<serde_json::Value, AllocError>
+        ensures { IfOk result (λ name. view name ≡ name_data self.now id.0) }
+    {
+        let mut text = Vec::new(self.alloc);
+        match self.write_id(id, &mut text) {
+            Ok(()) => text_json(self.alloc, &text),
+            // To a `Vec` only a want of memory is a fault.
+            Err(_) => Err(AllocError),
+        }
+    }
+
+    /// Puts an id, and what it is called.
+    #[tactic(auto, unfolding(crate::specs::EndJson::with_id))]
+    pub(crate) fn put_id(
+        &self,
+        id: ResId,
+        members: &mut Map<String, serde_json::Value>,
+    ) -> Result<(), AllocError>
+        ensures { OnOk result (members_view members.new.entries ≡ with_id self.now id.0 (members_view members.old.entries)) }
+    {
+        let mut text = Vec::new(self.alloc);
+        let Ok(()) = write_id(id, &mut text) else {
+            // To a `Vec` only a want of memory is a fault.
+            return Err(AllocError);
+        };
+        put(members, self.alloc, "id", text_json(self.alloc, &text)?)?;
+        let name = self.name_json(id)?;
+        put(members, self.alloc, "name", name)
+    }
+
+    /// What a value says that a row of the layer at a place holds.
+    #[tactic(auto, unfolding(crate::specs::EndJson::value_data_at))]
+    pub(crate) fn value_json(
+        &self,
+        layer: usize,
+        value: Value,
+    ) -> Result<serde_json::Value, AllocError>
+        ensures { IfOk result (λ json. view json ≡ value_data_at self.now layer value) }
+    {
+        let content = value_content(self.alloc, &self.stack, layer, value)?;
+        let json = value_json(self.alloc, &self.packages, &content);
+        drop(content);
+        json
+    }
+
+    /// Puts the layer at a place, and the path of its table, where it has one.
+    #[tactic(auto, unfolding(crate::specs::EndJson::with_layer))]
+    pub(crate) fn put_layer(
+        &self,
+        place: usize,
+        members: &mut Map<String, serde_json::Value>,
+    ) -> Result<(), AllocError>
+        ensures { OnOk result (members_view members.new.entries ≡ with_layer self.now place (members_view members.old.entries)) }
+    {
+        put(members, self.alloc, "layer", serde_json::Value::from(place))?;
+        let Some(path) = self.paths.get(place) else {
+            return Ok(());
+        };
+        let path = serde_json::Value::try_from_str(self.alloc, path.as_str())?;
+        put(members, self.alloc, "path", path)
     }
 }
 

@@ -1,0 +1,147 @@
+-- No line of JSON about ids and candidates has a float.
+use Rattle.std.proofs.Common.{◌≡◌, ℕ, ◌==◌, ◌&&◌, Bool, true, false, List, [], ◌∷◌, Option, Some, None, fold, slice_get, refl}
+use Rattle.std.specs.Prelude.{codes}
+use Rattle.hex.specs.Hex.{encode_lower}
+use Rattle.serde_json.specs.Data.{string, Members, no_members, put}
+use Rattle.serde_json.specs.Written.{has_float}
+use Rattle.config_box.specs.config_record.declared.coord.Coord.{Coord}
+use Rattle.config_box.specs.config_record.declared.coord.Coord.TheVariants as coords
+use Rattle.config_box.specs.config_record.Coord.{all_coords, name_of}
+use Rattle.config_box.specs.config_record.Record.{coordinate, locale_in, locale_script, locale_variant}
+use Rattle.config_box.specs.config_record.locales.declared.locale.Locale.{Locale}
+use Rattle.config_box.specs.config_record.locales.Text.{locale_text}
+use Rattle.config_box.specs.config_record.locales.Zero.{is_zero}
+use Rattle.notation.specs.ConfigText.{config_text}
+use Rattle.notation.specs.declared.form.Form.TheVariants.{Android}
+use Rattle.res_value.specs.ResId.{id_text}
+use Rattle.res_value.specs.declared.value.Value.{Value}
+use Rattle.names.specs.NamedIds.{packages_of}
+use Rattle.answer_text.specs.overlay_map.Candidates.{CandOf}
+use Rattle.answer_text.specs.InForm.{value_in}
+use Rattle.answer_text.specs.ValueContent.{value_content}
+use Rattle.reference_resolver.specs.declared.decision.Decision.{Decision}
+use Rattle.reference_resolver.specs.declared.decision.Decision.TheVariants.{SetAside, NoMatch, First, TookOver, TookOverEqual, KeptOut}
+use Rattle.reference_resolver.specs.declared.end.End.{End}
+use Rattle.reference_resolver.specs.declared.end.End.TheVariants as of_end
+use Rattle.reference_resolver.specs.Ends.{references_followed, is_value, end_of}
+use Rattle.resource_text.specs.ConfigJson.{with_number, with_locale, with_bytes, qualifiers_data, config_data}
+use Rattle.resource_text.specs.DecisionWords.{decision_notation}
+use Rattle.resource_text.specs.EndJson.{name_data, with_id, value_data_at, with_path, with_layer, place_data, with_end, with_origin, end_data, with_end_at}
+use Rattle.resource_text.specs.EndNotation.{last_selected}
+use Rattle.resource_text.specs.ExplainJson.{did, with_rule, with_reason, decision_data}
+use Rattle.resource_text.specs.LineJson.{line_members}
+use Rattle.resource_text.specs.Naming.{NamingOf, id_notation}
+use Rattle.resource_text.specs.TextJson.{text_data, number_data}
+use Rattle.resource_text.proofs.NoFloat.{NoFloat, put-no_float, text-no_float, value-no_float, either}
+
+-- ---- configurations
+
+number-no_float : (r : List ℕ) (ms : Members) (c : Coord) → NoFloat ms → NoFloat (with_number r ms c)
+unfolding with_number
+number-no_float r ms c none = either (coordinate r c == 0) ms _ none (put-no_float (name_of c) (number_data (coordinate r c)) ms refl none)
+
+numbers-no_float : (r : List ℕ) (ms : Members) (cs : List Coord) → NoFloat ms → NoFloat (fold (with_number r) ms cs)
+numbers-no_float r ms [] none = none
+numbers-no_float r ms (c ∷ cs) none = numbers-no_float r (with_number r ms c) cs (number-no_float r ms c none)
+
+locale-no_float : (locale : Locale) (ms : Members) → NoFloat ms → NoFloat (with_locale locale ms)
+unfolding with_locale
+locale-no_float locale ms none =
+    either (is_zero locale.language && is_zero locale.region) ms _ none (put-no_float (name_of coords.Locale) (text_data (locale_text locale)) ms (text-no_float (locale_text locale)) none)
+
+bytes-no_float : (name bytes : List ℕ) (ms : Members) → NoFloat ms → NoFloat (with_bytes name bytes ms)
+unfolding with_bytes
+bytes-no_float name bytes ms none = either (is_zero bytes) ms _ none (put-no_float name (text_data (encode_lower bytes)) ms (text-no_float (encode_lower bytes)) none)
+
+qualifiers-no_float : (r : List ℕ) → has_float (qualifiers_data r) ≡ false
+unfolding qualifiers_data
+qualifiers-no_float r =
+    bytes-no_float (codes "variant") (locale_variant r) _ (bytes-no_float (codes "script") (locale_script r) _
+    (locale-no_float (locale_in r) _ (numbers-no_float r no_members all_coords refl)))
+
+pub config-no_float : (r : List ℕ) → has_float (config_data r) ≡ false
+unfolding config_data
+config-no_float r =
+    put-no_float (codes "word") (text_data (config_text r)) (put (codes "qualifiers") (qualifiers_data r) no_members) (text-no_float (config_text r))
+    (put-no_float (codes "qualifiers") (qualifiers_data r) no_members (qualifiers-no_float r) refl)
+
+-- ---- ids and rows
+
+name-no_float : (naming : NamingOf) (id : ℕ) → has_float (name_data naming id) ≡ false
+name-no_float naming id = text-no_float (id_notation naming id)
+
+pub id-no_float : (naming : NamingOf) (id : ℕ) (ms : Members) → NoFloat ms → NoFloat (with_id naming id ms)
+unfolding with_id
+id-no_float naming id ms none =
+    put-no_float (codes "name") (name_data naming id) (put (codes "id") (text_data (id_text id)) ms) (name-no_float naming id)
+    (put-no_float (codes "id") (text_data (id_text id)) ms (text-no_float (id_text id)) none)
+
+pub value_at-no_float : (naming : NamingOf) (layer : ℕ) (value : Value) → has_float (value_data_at naming layer value) ≡ false
+unfolding value_data_at
+value_at-no_float naming layer value =
+    let content = value_content naming.stack layer value in value-no_float (packages_of naming.stack) content (value_in Android (packages_of naming.stack) content)
+
+path-no_float : (path : Option (List ℕ)) (ms : Members) → NoFloat ms → NoFloat (with_path path ms)
+path-no_float (Some path) ms none = put-no_float (codes "path") (string path) ms refl none
+path-no_float None ms none = none
+
+pub layer-no_float : (naming : NamingOf) (place : ℕ) (ms : Members) → NoFloat ms → NoFloat (with_layer naming place ms)
+unfolding with_layer
+layer-no_float naming place ms none =
+    path-no_float (slice_get naming.paths place) (put (codes "layer") (number_data place) ms) (put-no_float (codes "layer") (number_data place) ms refl none)
+
+pub place-no_float : (naming : NamingOf) (candidate : CandOf) → has_float (place_data naming candidate) ≡ false
+unfolding place_data
+place-no_float naming candidate =
+    layer-no_float naming candidate.layer (put (codes "config") (config_data candidate.row.config) no_members)
+    (put-no_float (codes "config") (config_data candidate.row.config) no_members (config-no_float candidate.row.config) refl)
+
+-- ---- ends
+
+pub said-no_float : (naming : NamingOf) (end : End) (ms : Members) → NoFloat ms → NoFloat (with_end naming end ms)
+unfolding with_end
+said-no_float naming (of_end.Value layer value) ms none = put-no_float (codes "value") (value_data_at naming layer value) ms (value_at-no_float naming layer value) none
+said-no_float naming (of_end.Bag id) ms none = put-no_float (codes "bag") (name_data naming id.0) ms (name-no_float naming id.0) none
+said-no_float naming (of_end.Absent id) ms none = put-no_float (codes "absent") (name_data naming id.0) ms (name-no_float naming id.0) none
+said-no_float naming (of_end.TooLong id) ms none = put-no_float (codes "tooManyReferences") (name_data naming id.0) ms (name-no_float naming id.0) none
+
+origin-no_float : (naming : NamingOf) (last : Option CandOf) (is_of_it : Bool) (ms : Members) → NoFloat ms → NoFloat (with_origin naming last is_of_it ms)
+unfolding with_origin
+origin-no_float naming None is_of_it ms none = none
+origin-no_float naming (Some candidate) true ms none = put-no_float (codes "from") (place_data naming candidate) ms (place-no_float naming candidate) none
+origin-no_float naming (Some candidate) false ms none = none
+
+pub end-no_float : (naming : NamingOf) (last : Option CandOf) (end : End) → has_float (end_data naming last end) ≡ false
+end-no_float naming last end = origin-no_float naming last (is_value end) (with_end naming end no_members) (said-no_float naming end no_members refl)
+
+pub end_at-no_float : (naming : NamingOf) (d : List ℕ) (id : ℕ) (ms : Members) → NoFloat ms → NoFloat (with_end_at naming d id ms)
+unfolding with_end_at
+end_at-no_float naming d id ms none =
+    let last = last_selected naming.stack references_followed id d in
+    let end = end_of naming.stack references_followed id d in
+    put-no_float (codes "end") (end_data naming last end) ms (end-no_float naming last end) none
+
+pub line-no_float : (kind : List ℕ) → NoFloat (line_members kind)
+line-no_float kind = put-no_float (codes "line") (string kind) no_members refl refl
+
+-- ---- candidates
+
+rule-no_float : (rule : Option ℕ) (ms : Members) → NoFloat ms → NoFloat (with_rule rule ms)
+rule-no_float (Some rule) ms none = put-no_float (codes "rule") _ ms (text-no_float _) none
+rule-no_float None ms none = none
+
+reason-no_float : (decision : Decision) (ms : Members) → NoFloat ms → NoFloat (with_reason decision ms)
+unfolding with_reason
+reason-no_float SetAside ms none = none
+reason-no_float (NoMatch coord) ms none = put-no_float (codes "qualifier") (string (name_of coord)) ms refl none
+reason-no_float First ms none = none
+reason-no_float (TookOver rule) ms none = rule-no_float rule ms none
+reason-no_float TookOverEqual ms none = none
+reason-no_float (KeptOut rule) ms none = rule-no_float rule ms none
+
+pub decision-no_float : (decision : Decision) → has_float (decision_data decision) ≡ false
+unfolding decision_data
+decision-no_float decision =
+    let known = put (codes "did") (string (did decision)) no_members in
+    put-no_float (codes "words") (text_data (decision_notation decision)) (with_reason decision known) (text-no_float (decision_notation decision))
+    (reason-no_float decision known (put-no_float (codes "did") (string (did decision)) no_members refl refl))
