@@ -5,7 +5,7 @@ use Rattle.std.specs.Ordering.{is_lt, nat_cmp}
 use Rattle.std.specs.declared.cmp.Ordering.{Ordering}
 use Rattle.std.specs.declared.cmp.Ordering.TheVariants.{Less, Greater}
 use Rattle.bags_themes.specs.string_pool.Text.{TextOf, is_text_of}
-use Rattle.bags_themes.specs.string_pool.declared.fault.StringFault.{StringFault}
+use Rattle.bags_themes.specs.string_pool.string_bytes.declared.fault.StringFault.{StringFault}
 use Rattle.bags_themes.specs.overlay_map.BaseRow.{first_base_row}
 use Rattle.bags_themes.specs.overlay_map.Layer.{LayerOf}
 use Rattle.bags_themes.specs.overlay_map.Names.{type_name_in}

@@ -4,8 +4,8 @@ use Rattle.answer_text.specs.OnLine.{on_line}
 use Rattle.bags_themes.specs.string_pool.Pool.{PoolOf}
 use Rattle.bags_themes.specs.string_pool.Text.{TextOf, text_in}
 use Rattle.bags_themes.specs.string_pool.Shown.{shown_text}
-use Rattle.bags_themes.specs.string_pool.declared.fault.StringFault.{StringFault}
-use Rattle.bags_themes.specs.string_pool.declared.fault.StringFault.TheVariants as faults
+use Rattle.bags_themes.specs.string_pool.string_bytes.declared.fault.StringFault.{StringFault}
+use Rattle.bags_themes.specs.string_pool.string_bytes.declared.fault.StringFault.TheVariants as faults
 use Rattle.bags_themes.specs.res_value.Kind.{string_kind, reference_kind, attribute_kind}
 use Rattle.bags_themes.specs.res_value.declared.value.Value.{Value}
 use Rattle.bags_themes.specs.overlay_map.Layer.{LayerOf}

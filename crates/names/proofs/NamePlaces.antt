@@ -5,8 +5,8 @@ use Rattle.overlay_map.specs.Names.{type_name_in, key_name_in, found_package}
 use Rattle.overlay_map.specs.Table.{TableOf}
 use Rattle.overlay_map.specs.type_chunks.Row.{RowOf}
 use Rattle.string_pool.specs.Text.{TextOf, text_in}
-use Rattle.string_pool.specs.declared.fault.StringFault.{StringFault}
-use Rattle.string_pool.specs.declared.fault.StringFault.TheVariants.{NoSuch}
+use Rattle.string_pool.specs.string_bytes.declared.fault.StringFault.{StringFault}
+use Rattle.string_pool.specs.string_bytes.declared.fault.StringFault.TheVariants.{NoSuch}
 use Rattle.overlay_map.specs.res_value.ResId.{type_of}
 use Rattle.names.specs.IdsOfType.{id_of_number}
 use Rattle.names.specs.Passed.{HaveSameNames}

@@ -17,7 +17,7 @@ use Rattle.overlay_map.specs.Names.{type_name_in, key_name_in}
 use Rattle.overlay_map.specs.Table.{TableOf}
 use Rattle.overlay_map.specs.type_chunks.Row.{RowOf}
 use Rattle.overlay_map.specs.string_pool.Text.{TextOf}
-use Rattle.overlay_map.specs.string_pool.declared.fault.StringFault.{StringFault}
+use Rattle.overlay_map.specs.string_pool.string_bytes.declared.fault.StringFault.{StringFault}
 use Rattle.names.specs.declared.label.Label.{Label}
 use Rattle.names.specs.declared.noted.Noted.{Noted}
 use Rattle.names.specs.declared.passed.Passed.{Passed}

@@ -5,7 +5,7 @@ use Rattle.overlay_map.specs.Table.{TableOf}
 use Rattle.overlay_map.specs.res_value.ResId.{package_of}
 use Rattle.overlay_map.specs.type_chunks.Row.{RowOf}
 use Rattle.string_pool.specs.Text.{TextOf}
-use Rattle.string_pool.specs.declared.fault.StringFault.{StringFault}
+use Rattle.string_pool.specs.string_bytes.declared.fault.StringFault.{StringFault}
 use Rattle.names.specs.declared.found.Found.{Found}
 use Rattle.names.specs.declared.passed.Passed.{Passed}
 use Rattle.names.specs.declared.sought.Sought.{Sought}

@@ -2,7 +2,7 @@
 use Rattle.std.specs.Prelude.{ℕ, List, Option, Some, None, Result, Ok, Err, if◌then◌else◌}
 use Rattle.std.specs.Char.Utf16.{has_unpaired_surrogate, utf16_lossy_chars}
 use Rattle.std.specs.Str.{is_utf8, encode_utf8_all}
-use Rattle.string_pool.specs.declared.fault.StringFault.{StringFault}
+use Rattle.string_pool.specs.string_bytes.declared.fault.StringFault.{StringFault}
 use Rattle.string_pool.specs.Text.{TextOf}
 use Rattle.string_pool.specs.Units.{units_in}
 use Rattle.names.specs.Surrogates.{with_pairs}

@@ -8,7 +8,7 @@ use Rattle.overlay_map.specs.Table.{TableOf, rows_of}
 use Rattle.overlay_map.specs.res_value.ResId.{package_of}
 use Rattle.overlay_map.specs.res_value.declared.res_id.ResId.{ResId}
 use Rattle.overlay_map.specs.type_chunks.Row.{RowOf}
-use Rattle.string_pool.specs.declared.fault.StringFault.{StringFault}
+use Rattle.string_pool.specs.string_bytes.declared.fault.StringFault.{StringFault}
 use Rattle.string_pool.specs.Text.{TextOf}
 use Rattle.names.specs.NameText.{name_text}
 use Rattle.names.specs.declared.name.Name.{Name}

@@ -5,7 +5,7 @@ use Rattle.std.proofs.lemmas.Bool.Decides.{nat_tests}
 use Rattle.type_chunks.specs.res_value.ResId.{type_of}
 use Rattle.type_chunks.specs.string_pool.Text.{text_in}
 use Rattle.type_chunks.specs.string_pool.Pool.{pool_of}
-use Rattle.type_chunks.specs.string_pool.declared.fault.StringFault.TheVariants.{NoSuch}
+use Rattle.type_chunks.specs.string_pool.string_bytes.declared.fault.StringFault.TheVariants.{NoSuch}
 use Rattle.type_chunks.specs.Row.{RowOf}
 use Rattle.overlay_map.specs.declared.package.Package.{Package}
 use Rattle.overlay_map.specs.Package.{package_of, packages_of}

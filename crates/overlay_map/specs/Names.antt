@@ -4,8 +4,8 @@ use Rattle.std.specs.Option.{option_map}
 use Rattle.contract_words.specs.Faults.{◌>>=◌, refuse}
 use Rattle.type_chunks.specs.res_value.ResId.{type_of}
 use Rattle.type_chunks.specs.string_pool.Text.{TextOf, text_in, is_text_of}
-use Rattle.type_chunks.specs.string_pool.declared.fault.StringFault.{StringFault}
-use Rattle.type_chunks.specs.string_pool.declared.fault.StringFault.TheVariants.{NoSuch}
+use Rattle.type_chunks.specs.string_pool.string_bytes.declared.fault.StringFault.{StringFault}
+use Rattle.type_chunks.specs.string_pool.string_bytes.declared.fault.StringFault.TheVariants.{NoSuch}
 use Rattle.type_chunks.specs.Row.{RowOf}
 use Rattle.overlay_map.specs.Package.{PackageOf}
 use Rattle.overlay_map.specs.Table.{TableOf, rows_of}

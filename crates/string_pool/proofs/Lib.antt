@@ -6,4 +6,3 @@ pub mod PlainTexts
 pub mod WriteSteps
 pub mod UnitTexts
 pub mod Ranges
-pub mod ClosingSteps

@@ -2,13 +2,13 @@
 use Rattle.std.proofs.Common.{◌≡◌, ℕ, List, [], ◌++◌, take, drop, Result, Ok, Err, IfOk, inl, inr, not, ◌==◌, ◌-◌, ◌*◌, ◌^◌, nat_lt, ◌&&◌, length, subst, sym, ap, ◌∙◌, append_assoc, take-append-drop}
 use Rattle.std.proofs.lemmas.Bool.{cases_Bool}
 use Rattle.std.proofs.lemmas.List.{append-nil}
+use Rattle.std.proofs.lemmas.Result.{IfOk-weaker}
 use Rattle.contract_words.specs.Faults.{◌>>=◌}
 use Rattle.string_pool.specs.declared.fault.PoolFault.{PoolFault}
-use Rattle.string_pool.specs.declared.fault.StringFault.{StringFault}
-use Rattle.string_pool.specs.declared.text.Text.{Text}
+use Rattle.string_bytes.specs.declared.fault.StringFault.{StringFault}
 use Rattle.string_pool.specs.Lent.{IsRangeOf}
 use Rattle.string_pool.specs.Pool.{part_in, before_styles}
-use Rattle.string_pool.specs.Text.{TextOf, text_of, seen_text, FrontOf, front_in, length_in, closed_in, utf8_in, utf16_in}
+use Rattle.string_bytes.specs.Bytes.{FrontOf, front_in, length_in, closed_in, utf8_bytes_in, utf16_bytes_in}
 
 range-take : (n : ℕ) (bytes : List ℕ) → IsRangeOf bytes (take n bytes)
 range-take n bytes = record { before = []; behind = drop n bytes; same = sym (take-append-drop n bytes) }
@@ -71,35 +71,29 @@ closed_in-range unit count =
           ]))
     ]
 
-utf8_in-range : (left : List ℕ) → IfOk (utf8_in left) (λ text. IsRangeOf left text.bytes)
-unfolding utf8_in
-utf8_in-range left =
+utf8_bytes-range : (left : List ℕ) → IfOk (utf8_bytes_in left) (λ part. IsRangeOf left part)
+unfolding utf8_bytes_in
+utf8_bytes-range left =
     ok-bind (length_in 1 left) _ (λ units. IsRangeOf left units.behind) _ (length_in-range 1 left)
     (λ units first. ok-bind (length_in 1 units.behind) _ (λ count. IsRangeOf units.behind count.behind) _ (length_in-range 1 units.behind)
-    (λ count second. ok-bind (closed_in 1 count) _ (λ part. IsRangeOf count.behind part) _ (closed_in-range 1 count)
-    (λ part third. range-range left units.behind part first (range-range units.behind count.behind part second third))))
+    (λ count second. IfOk-weaker (closed_in 1 count) _ _ (λ part third. range-range left units.behind part first (range-range units.behind count.behind part second third)) (closed_in-range 1 count)))
 
-utf16_in-range : (left : List ℕ) → IfOk (utf16_in left) (λ text. IsRangeOf left text.bytes)
-unfolding utf16_in
-utf16_in-range left =
+utf16_bytes-range : (left : List ℕ) → IfOk (utf16_bytes_in left) (λ part. IsRangeOf left part)
+unfolding utf16_bytes_in
+utf16_bytes-range left =
     ok-bind (length_in 2 left) _ (λ count. IsRangeOf left count.behind) _ (length_in-range 2 left)
-    (λ count first. ok-bind (closed_in 2 count) _ (λ part. IsRangeOf count.behind part) _ (closed_in-range 2 count)
-    (λ part second. range-range left count.behind part first second))
+    (λ count first. IfOk-weaker (closed_in 2 count) _ _ (λ part second. range-range left count.behind part first second) (closed_in-range 2 count))
 
-lent_text : (strings left : List ℕ) (place : ℕ) (text : Result TextOf StringFault) (r : Result Text StringFault) → left ≡ drop place strings → seen_text r ≡ text
-    → IfOk text (λ t. IsRangeOf left t.bytes) → IfOk r (λ text. IsRangeOf strings (text_of text).bytes)
-lent_text strings left place text (Err fault) split seen known = tt
-lent_text strings left place text (Ok found) split seen known =
-    let part : IsRangeOf left (text_of found).bytes = subst (λ (r : Result TextOf StringFault). IfOk r (λ t. IsRangeOf left t.bytes)) (sym seen) known in
-    range-range strings left (text_of found).bytes (subst (λ (t : List ℕ). IsRangeOf strings t) (sym split) (range-drop place strings)) part
+lent_bytes : (strings left part : List ℕ) (place : ℕ) (r : Result (List ℕ) StringFault) → left ≡ drop place strings → Ok part ≡ r → IfOk r (λ part. IsRangeOf left part) → IsRangeOf strings part
+lent_bytes strings left part place r split found known =
+    let here : IsRangeOf left part = subst (λ (r : Result (List ℕ) StringFault). IfOk r (λ part. IsRangeOf left part)) (sym found) known in
+    range-range strings left part (subst (λ (t : List ℕ). IsRangeOf strings t) (sym split) (range-drop place strings)) here
 
-pub lent_utf8 : (strings left : List ℕ) (place : ℕ) (r : Result Text StringFault) → left ≡ drop place strings → seen_text r ≡ utf8_in left
-    → IfOk r (λ text. IsRangeOf strings (text_of text).bytes)
-lent_utf8 strings left place r split seen = lent_text strings left place (utf8_in left) r split seen (utf8_in-range left)
+pub lent_utf8 : (strings left part : List ℕ) (place : ℕ) → left ≡ drop place strings → Ok part ≡ utf8_bytes_in left → IsRangeOf strings part
+lent_utf8 strings left part place split found = lent_bytes strings left part place (utf8_bytes_in left) split found (utf8_bytes-range left)
 
-pub lent_utf16 : (strings left : List ℕ) (place : ℕ) (r : Result Text StringFault) → left ≡ drop place strings → seen_text r ≡ utf16_in left
-    → IfOk r (λ text. IsRangeOf strings (text_of text).bytes)
-lent_utf16 strings left place r split seen = lent_text strings left place (utf16_in left) r split seen (utf16_in-range left)
+pub lent_utf16 : (strings left part : List ℕ) (place : ℕ) → left ≡ drop place strings → Ok part ≡ utf16_bytes_in left → IsRangeOf strings part
+lent_utf16 strings left part place split found = lent_bytes strings left part place (utf16_bytes_in left) split found (utf16_bytes-range left)
 
 -- ---- the bytes in which the strings of a pool stand
 

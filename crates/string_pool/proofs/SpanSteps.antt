@@ -5,8 +5,8 @@ use Rattle.std.proofs.lemmas.List.{append-nil}
 use Rattle.contract_words.specs.Sequences.{with_front}
 use Rattle.contract_words.proofs.SequenceSteps.{with_front_nil, with_front-twice}
 use Rattle.chunk_walk.specs.Number.{number}
-use Rattle.string_pool.specs.declared.fault.StringFault.{StringFault}
-use Rattle.string_pool.specs.declared.fault.StringFault.TheVariants.{Cut}
+use Rattle.string_bytes.specs.declared.fault.StringFault.{StringFault}
+use Rattle.string_bytes.specs.declared.fault.StringFault.TheVariants.{Cut}
 use Rattle.string_pool.specs.declared.span.Span.{Span}
 use Rattle.string_pool.specs.Style.{span_in, at_most_spans, spans_in}
 use Rattle.string_pool.specs.Spans.{listed_spans}

@@ -4,8 +4,8 @@ use Rattle.std.specs.Prelude.{ℕ, zero, suc, ◌-◌, ◌/◌, ◌%◌, ◌^◌
 use Rattle.std.specs.Char.Utf16.{is_high_surrogate, is_low_surrogate, surrogate_pair_char}
 use Rattle.bstr.specs.Utf8.{Decoded, decoded}
 use Rattle.hex.specs.Hex.{encode_lower}
-use Rattle.string_pool.specs.declared.fault.StringFault.{StringFault}
-use Rattle.string_pool.specs.declared.fault.StringFault.TheVariants.{NoSuch, Cut, NotEnded}
+use Rattle.string_bytes.specs.declared.fault.StringFault.{StringFault}
+use Rattle.string_bytes.specs.declared.fault.StringFault.TheVariants.{NoSuch, Cut, NotEnded}
 use Rattle.string_pool.specs.Text.{TextOf}
 use Rattle.string_pool.specs.Units.{units_in}
 

@@ -3,8 +3,8 @@ use Rattle.std.specs.Prelude.{ℕ, zero, suc, ◌+◌, ◌*◌, not, List, [], �
 use Rattle.contract_words.specs.Faults.{◌>>=◌, refuse}
 use Rattle.contract_words.specs.Sequences.{with_front}
 use Rattle.chunk_walk.specs.Number.{number}
-use Rattle.string_pool.specs.declared.fault.StringFault.{StringFault}
-use Rattle.string_pool.specs.declared.fault.StringFault.TheVariants.{NoSuch, Cut}
+use Rattle.string_bytes.specs.declared.fault.StringFault.{StringFault}
+use Rattle.string_bytes.specs.declared.fault.StringFault.TheVariants.{NoSuch, Cut}
 use Rattle.string_pool.specs.declared.span.Span.{Span}
 use Rattle.string_pool.specs.Layout.{offset_size, span_size, span_name_size, end_of_spans}
 use Rattle.string_pool.specs.Pool.{PoolOf}

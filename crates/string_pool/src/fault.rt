@@ -1,4 +1,4 @@
-//! Why a pool, a string or a style is refused.
+//! Why a pool is refused.
 
 use std::fmt::{self, Debug, Display, Formatter};
 use thiserror::Error;
@@ -19,28 +19,6 @@ pub enum PoolFault {
 
 /// By its text.
 impl Debug for PoolFault {
-    fn fmt<W: fmt::Write>(&self, f: &mut Formatter<W>) -> fmt::Result {
-        Display::fmt(self, f)
-    }
-}
-
-/// Why there is no string or style at an index. Of several faults the first on the way through its
-/// bytes is named.
-#[derive(Clone, Copy, Error)]
-pub enum StringFault {
-    /// The pool has fewer strings, or styles.
-    #[error("NoSuch")]
-    NoSuch,
-    /// A length, a text, the zero that closes it, or a span does not fit.
-    #[error("Cut")]
-    Cut,
-    /// The text is not closed by a zero.
-    #[error("NotEnded")]
-    NotEnded,
-}
-
-/// By its text.
-impl Debug for StringFault {
     fn fmt<W: fmt::Write>(&self, f: &mut Formatter<W>) -> fmt::Result {
         Display::fmt(self, f)
     }

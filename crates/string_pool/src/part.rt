@@ -2,7 +2,7 @@
 
 ghost use Rattle.std.specs.Prelude.{◌≡◌, take, drop};
 ghost use Rattle.string_pool.specs.Pool.{part_in, before_styles};
-ghost use Rattle.string_pool.specs.Part.{seen_part};
+ghost use Rattle.string_bytes.specs.Part.{seen_part};
 
 use crate::fault::PoolFault;
 

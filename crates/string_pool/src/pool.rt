@@ -3,15 +3,15 @@
 ghost use Rattle.std.specs.Prelude.{◌≡◌, ◌+◌, ◌*◌, ◌≤◌, ◌==◌, length, IfOk};
 ghost use Rattle.string_pool.specs.Layout.{offset_size};
 
-use crate::fault::{PoolFault, StringFault};
+use crate::fault::PoolFault;
 use crate::layout::{OFFSET_SIZE, pool_header as header};
 use crate::part::{before_styles, bytes_from, part_from};
 use crate::pool_flags::PoolFlags;
-use crate::reading::{utf8_text, utf16_text};
 use crate::spans::Spans;
 use crate::text::Text;
 use bitflags::Flags;
 use chunk_walk::{Chunk, u32_within};
+use string_bytes::{StringFault, utf8_bytes, utf16_bytes};
 
 /// A string pool whose header was checked (AOSP: `ResStringPool`), lent from the bytes of its file.
 /// A string or a style is checked when it is asked for.
@@ -120,9 +120,9 @@ impl<'a> Pool<'a> {
         let offset = u32_within(self.offsets, OFFSET_SIZE * index) as usize;
         let left = bytes_from(self.strings, offset);
         if self.utf8 {
-            utf8_text(left)
+            Ok(Text::Utf8(utf8_bytes(left)?))
         } else {
-            utf16_text(left)
+            Ok(Text::Utf16(utf16_bytes(left)?))
         }
     }
 

@@ -7,13 +7,13 @@ ghost use Rattle.string_pool.specs.Shown.{takes_backslash, is_control, character
 ghost use Rattle.string_pool.specs.Text.{seen_text};
 ghost use Rattle.string_pool.specs.Units.{units_in};
 
-use crate::fault::StringFault;
 use crate::plain::{is_plain_ascii, is_plain_text};
 use crate::text::Text;
 use crate::units::first_character;
 use arrayvec::ArrayVec;
 use chunk_walk::write_hex;
 use std::io::{self, Write};
+use string_bytes::StringFault;
 
 /// Writes what was asked for: a string between quotes, or the name of its fault behind `!`.
 #[tactic(auto, unfolding(crate::specs::Shown::string_text))]

@@ -4,11 +4,11 @@ ghost use Rattle.std.specs.Prelude.{◌≡◌, ◌≤◌, length};
 ghost use Rattle.string_pool.specs.Layout.{span_size};
 ghost use Rattle.string_pool.specs.Style.{span_in, spans_in};
 
-use crate::fault::StringFault;
 use crate::layout::span as layout;
 use crate::span::Span;
 use chunk_walk::u32_within;
 use std::marker::Model;
+use string_bytes::StringFault;
 
 /// The spans of a style that are left, in the order of the file.
 #[derive(Drop)]

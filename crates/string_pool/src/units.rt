@@ -3,14 +3,11 @@
 ghost use Rattle.std.specs.Prelude.{◌≡◌, ◌<◌, [], ◌∷◌, ◌++◌, length, MatchOption, IfSome};
 ghost use Rattle.std.specs.Str.{bytes_eq};
 ghost use Rattle.string_pool.specs.Escapes.{piece_text, pair_of};
-ghost use Rattle.string_pool.specs.Front.{IsFirstUnit};
 ghost use Rattle.string_pool.specs.Shown.{unit_text, units_text};
 ghost use Rattle.string_pool.specs.Units.{units_in, units_of};
 
 use chunk_walk::u16_within;
-
-/// How many bytes a unit has.
-pub(crate) const UNIT_SIZE: usize = 2;
+use string_bytes::UNIT_SIZE;
 
 // A character past 16 bits is a pair of units: a high surrogate, and a low one.
 const HIGH_START: u16 = 0xd800;
@@ -21,10 +18,9 @@ const LOW_END: u16 = 0xe000;
 
 const PAIRS_START: u32 = 0x1_0000;
 
-/// The first unit, and the bytes behind it.
+// The first unit, and the bytes behind it.
 #[tactic(auto, using(crate::proofs::UnitSteps::unit_steps))]
-pub(crate) fn first_unit(left: &[u8]) -> Option<(u16, &[u8])>
-    ensures number { IsFirstUnit left.now result }
+fn first_unit(left: &[u8]) -> Option<(u16, &[u8])>
     ensures first { MatchOption result (units_in left.now ≡ []) (λ found. units_in left.now ≡ found.0 ∷ units_in found.1.now) }
     ensures shorter { IfSome result (λ found. length found.1.now < length left.now) }
 {

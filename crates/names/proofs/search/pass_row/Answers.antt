@@ -4,7 +4,7 @@ use Rattle.std.specs.Cow.{cow_str_bytes}
 use Rattle.std.specs.Option.{option_map}
 use Rattle.overlay_map.specs.type_chunks.Row.{row_of}
 use Rattle.string_pool.specs.Text.{TextOf}
-use Rattle.string_pool.specs.declared.fault.StringFault.{StringFault}
+use Rattle.string_pool.specs.string_bytes.declared.fault.StringFault.{StringFault}
 use Rattle.names.specs.declared.sought.Sought.{Sought}
 use Rattle.names.specs.NameText.{name_text}
 use Rattle.names.specs.Sought.{AreSought}

@@ -1,4 +1,4 @@
--- Bytes that were lent, or a fault. Contracts within the crate alone speak of this.
+-- Bytes that were lent, or a fault.
 use Rattle.std.specs.Prelude.{ℕ, List, Result, Ok, Err}
 use Rattle.std.specs.Borrow.{Bor}
 

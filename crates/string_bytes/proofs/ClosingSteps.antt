@@ -3,8 +3,8 @@ use Rattle.std.proofs.Common.{◌≡◌, ℕ, ◌≤◌, List, length, take, dro
 use Rattle.std.proofs.lemmas.Grind.{common_steps}
 use Rattle.std.specs.List.{slice_get}
 use Rattle.chunk_walk.specs.Number.{number}
-use Rattle.string_pool.specs.declared.fault.StringFault.TheVariants.{NotEnded}
-use Rattle.string_pool.specs.Text.{FrontOf, front_in, closed_in}
+use Rattle.string_bytes.specs.declared.fault.StringFault.TheVariants.{NotEnded}
+use Rattle.string_bytes.specs.Bytes.{FrontOf, front_in, closed_in}
 
 pub closed_ended : (count : FrontOf) (part behind : List ℕ) (closing : ℕ) → part ≡ take count.number count.behind → behind ≡ drop count.number count.behind
     → count.number ≤ length count.behind → slice_get behind 0 ≡ Some closing → closing ≡ 0 → Ok part ≡ closed_in 1 count

@@ -1,8 +1,8 @@
 use Rattle.std.proofs.Common.{ap, sym, ◌∙◌}
 use Rattle.std.specs.Option.{option_copied}
-use Rattle.string_pool.proofs.ClosingSteps.{closed_ended, closed_open}
-use Rattle.string_pool.specs.Front.{front_of}
-use Rattle.string_pool.proofs.reading.closed_bytes.Goals as goal
+use Rattle.string_bytes.proofs.ClosingSteps.{closed_ended, closed_open}
+use Rattle.string_bytes.specs.Front.{front_of}
+use Rattle.string_bytes.proofs.reading.closed_bytes.Goals as goal
 
 pub returns-in-Some-eq0 : goal.returns-in-Some-eq0
 returns-in-Some-eq0 c =
