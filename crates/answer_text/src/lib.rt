@@ -2,7 +2,7 @@
 //! they share with lines of faults: which layer it is, and a name with an id, a coordinate or a number behind it.
 //!
 //! What a resource says at a device, apart from ids and indexes, is its content: a value, where a string stands for itself
-//! and an id for what it is called, or the rows of a bag, or what stands in place of these. `content_at` gives it;
+//! and an id for what it is called, or the rows of a bag, or what stands in place of these. `content_of_end` gives it;
 //! `write_value_content` and `write_row_key` write its parts, `write_value_notation` and `write_key_notation` as XML does,
 //! and `write_value_in` and `write_key_in` in either `Form`.
 //!
@@ -54,7 +54,7 @@ pub use bags_themes::{
     PoolFault, ResId, Row, Stack, StackFault, Table, TableFault, Theme, Value, bag, kind,
 };
 pub use content::{BrokenString, Content, Quantity, RowContent, RowKey, ValueContent};
-pub use device_content::{content_at, content_of_end, end_of};
+pub use device_content::{content_of_end, end_of};
 pub use dump::{dump_text, write_flags, write_package_line};
 pub use end::{end_text, write_end_line, write_end_with_name, write_end_with_string};
 pub use explanation::explain;
