@@ -59,6 +59,15 @@ pub answered_on_read : {X : Type 0} (Command : X → Result Status ToolFault →
 answered_on_read Command None read held done result is put same = tt
 answered_on_read Command (Some places) read held done result is put same = carried_out Command (read places) held done result is put same
 
+-- both, of what was read
+pub answered : {W X : Type 0} (answer : X → Result Output ToolFault) (contents : W → Option (List ℕ)) (old new : W) (held : X) (done : Result Status ToolFault) (result : Result Status Stop)
+    → Prints contents old new done (answer held) → MatchResult done (λ status. result ≡ Ok status) (λ fault. result ≡ Err (Tool fault))
+    → CarriesOut (λ read done. Prints contents old new done (answer read)) (Ok held) result × IsKept old new result
+answered {W} {X} answer contents old new held done result printed same = (
+  carried_out (λ (read : X) (done : Result Status ToolFault). Prints contents old new done (answer read)) (Ok held) held done result refl printed same,
+  kept_by_done contents old new (answer held) done result printed same,
+)
+
 pub both_kept_by_done : {W V : Type 0} (contents : W → Option (List ℕ)) (says : V → Option (List ℕ)) (old new : W) (before after : V) (meant : Result MapOutput ToolFault)
     (done : Result Status ToolFault) (result : Result Status Stop) → PrintsBoth contents says old new before after done meant
     → MatchResult done (λ status. result ≡ Ok status) (λ fault. result ≡ Err (Tool fault)) → (IsKept old new result) × (IsKept before after result)

@@ -28,7 +28,7 @@ use Rattle.resource_tool.specs.Check.{OpenCheckOf, first_opened, with_first}
 use Rattle.resource_tool.specs.CheckOutput.{CheckInputs, IsCheckAnswer, Tells, TellingOf, naming_of, status_of_verdict, told_text}
 use Rattle.resource_tool.specs.EachGoal.{goes_on}
 use Rattle.resource_tool.proofs.FirstOf.{carried-on-all, first-at, told-of-first}
-use Rattle.resource_tool.proofs.Told.{told-otherwise}
+use Rattle.resource_tool.proofs.ToldAnswers.{told-otherwise}
 
 -- ---- the lists
 

@@ -30,7 +30,7 @@ use Rattle.resource_tool.specs.Make.{OpenMakeOf, PrintsMade, first_opened, looke
 use Rattle.resource_tool.specs.MakeOutput.{MakeInputs, IsReadAccepted, IsMakeAnswer, goal_of_made, made_output}
 use Rattle.resource_tool.proofs.FirstOf.{carried-on-all, first-at, place-within, take-fewer, told-of-first}
 use Rattle.resource_tool.proofs.MakeSteps.{not_done}
-use Rattle.resource_tool.proofs.Told.{told-otherwise}
+use Rattle.resource_tool.proofs.ToldAnswers.{told-otherwise}
 
 -- ---- each tree has a node
 

@@ -11,7 +11,34 @@ pub mod FirstGoals
 pub mod FirstChecked
 pub mod MakeSteps
 pub mod OmitSteps
-pub mod Told
+pub mod ToldAnswers
 pub mod KeptStreams
+pub mod AnySteps
+pub mod ToldSteps
+pub mod LayerLaws
+pub mod WarningSteps
+pub mod QualifierSteps
+pub mod QualifierLaws
+pub mod FindingsSteps
+pub mod EntriesSteps
+pub mod CountedSteps
+pub mod DiffersSteps
+pub mod LineSteps
+pub mod LinePartSteps
+pub mod GoalSteps
+pub mod WholeTreeLemmas
+pub mod Stopped
+pub mod Opening
+pub mod Asked
+pub mod PairSteps
+pub mod SameBytes
+pub mod Counts
+pub mod Kept
+pub mod Blocks
+pub mod Mapped
+pub mod Valued
+pub mod UsedRows
+pub mod PrintedUnused
+pub use Rattle.answer_text.proofs.InOrder
 pub use Rattle.command_base.proofs as command_base_proofs
 pub use Rattle.names.proofs as names_proofs

@@ -1,7 +1,7 @@
 -- What the command `attr` prints, and what its words ask.
 use Rattle.std.specs.Prelude.{ℕ, Bool, false, List, [], ◌∷◌, ◌++◌, codes, Option, None, Result, Ok, Err, if◌then◌else◌}
 use Rattle.contract_words.specs.Faults.{◌>>=◌}
-use Rattle.json_input.specs.Each.{each}
+use Rattle.command_base.specs.json_input.Each.{each}
 use Rattle.command_base.specs.answer_text.config_record.locales.declared.locale_rule.LocaleRule.{LocaleRule}
 use Rattle.command_base.specs.answer_text.res_value.declared.res_id.ResId.{ResId}
 use Rattle.command_base.specs.answer_text.res_value.ResId.{id_text}

@@ -3,7 +3,7 @@
 use Rattle.std.specs.Prelude.{ℕ, ◌+◌, List, [], map, length, take, Option, Some, None, Result, Ok, Err, if◌then◌else◌}
 use Rattle.contract_words.specs.Faults.{◌>>=◌}
 use Rattle.contract_words.specs.Sequences.{joined_each}
-use Rattle.json_input.specs.Each.{each}
+use Rattle.command_base.specs.json_input.Each.{each}
 use Rattle.command_base.specs.declared.status.Status.{Status}
 use Rattle.command_base.specs.declared.stop.Stop.{Stop}
 use Rattle.command_base.specs.CarriesOut.{CarriesOut, read_or_stop, found_or_stop}

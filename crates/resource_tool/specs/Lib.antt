@@ -19,10 +19,62 @@ pub mod BoxFiles
 pub mod LineReadsBack
 pub mod Make
 pub mod Check
+pub mod Locales
+pub mod RowNotes
+pub mod LayerNotes
+pub mod Qualifiers
+pub mod BoxGaps
+pub mod SurveyText
+pub mod LayersText
+pub mod WarningsLaw
+pub mod Refused
+pub mod SurveyOutput
+pub mod Survey
+pub mod NumberSaid
+pub mod Counting
+pub mod Unfolded
+pub mod Finding
+pub mod Findings
+pub mod Counted
+pub mod Types
+pub mod Entries
+pub mod Chunks
+pub mod Differs
+pub mod TreeLines
+pub mod TreeLinesSeen
+pub mod WholeTree
+pub mod TreeText
+pub mod LineParts
+pub mod DotText
+pub mod ShowOutput
+pub mod Show
+pub mod DiffInputs
+pub mod OpensChanged
+pub mod Telling
+pub mod Judged
+pub mod StackCounts
+pub mod DiffLines
+pub mod DiffOutput
+pub mod OpenedDiffSeen
+pub mod Diff
+pub mod AskedPairs
+pub mod ValuesOutput
+pub mod Values
+pub mod UnusedOutput
+pub mod UnusedTotals
+pub mod Unused
+pub mod NameLines
+pub mod JsonLines
+pub use Rattle.chunk_walk.specs as chunk_walk
 pub use Rattle.command_base.specs as command_base
 pub use Rattle.command_base.specs.answer_text
 pub use Rattle.command_base.specs.answer_text.config_record
 pub use Rattle.command_base.specs.answer_text.reference_resolver
 pub use Rattle.command_base.specs.overlay_map
+pub use Rattle.notation.specs as notation
+pub use Rattle.resource_text.specs as resource_text
 pub use Rattle.resource_text.specs.cert_maker.cert_tree
 pub use Rattle.resource_text.specs.cert_maker.res_value
+pub use Rattle.stack_diff.specs as stack_diff
+pub use Rattle.stack_diff.specs.config_box
+pub use Rattle.stack_diff.specs.names

@@ -2,7 +2,7 @@
 -- inputs, and then the first word that asks for no resource.
 use Rattle.std.specs.Prelude.{◌≡◌, ℕ, ◌+◌, Bool, true, false, List, map, take, Option, Result, Ok}
 use Rattle.contract_words.specs.Faults.{◌>>=◌}
-use Rattle.json_input.specs.Each.{each}
+use Rattle.command_base.specs.json_input.Each.{each}
 use Rattle.command_base.specs.declared.fault.ToolFault.{ToolFault}
 use Rattle.command_base.specs.declared.status.Status.{Status}
 use Rattle.command_base.specs.declared.stop.Stop.{Stop}
@@ -15,7 +15,7 @@ use Rattle.command_base.specs.Stop.{StopOf}
 use Rattle.command_base.specs.names.NamedGoals.{goals_named}
 use Rattle.command_base.specs.answer_text.config_record.locales.declared.locale_rule.LocaleRule.{LocaleRule}
 use Rattle.resource_text.specs.cert_maker.res_value.Goal.{GoalSeen, goal_seen}
-use Rattle.resource_tool.specs.BoxFiles.{GoalBytes, goal_files}
+use Rattle.resource_tool.specs.BoxFiles.{AskedBoxBytes, asked_box_files}
 use Rattle.resource_tool.specs.declared.make.Make.{Make}
 use Rattle.resource_tool.specs.declared.make.OpenMake.{OpenMake}
 use Rattle.resource_tool.specs.Answered.{PrintsBothOneOf}
@@ -92,7 +92,7 @@ MakesOpened is_terminal omit names most contents says old new before after opene
     CarriesOut (PrintsMade is_terminal omit names most contents says old new before after) opened result
 
 -- from the files, if they are read
-abbrev pub MakesFiles : {W V : Type 0} → Bool → Make → (W → Option (List ℕ)) → (V → Option (List ℕ)) → W → W → V → V → Result GoalBytes StopOf → Result Status Stop → Type 0
+abbrev pub MakesFiles : {W V : Type 0} → Bool → Make → (W → Option (List ℕ)) → (V → Option (List ℕ)) → W → W → V → V → Result AskedBoxBytes StopOf → Result Status Stop → Type 0
 MakesFiles is_terminal make contents says old new before after read result =
     MakesOpened is_terminal make.omit make.names make.max_nodes contents says old new before after
     (read >>= λ files. make_opened make.locales files.layers files.box_json files.words) result
@@ -101,4 +101,4 @@ MakesFiles is_terminal make contents says old new before after read result =
 abbrev pub Makes : {W V : Type 0} → Bool → (W → Option (List ℕ)) → (V → Option (List ℕ)) → W → W → V → V → Places → Make → Result Status Stop → Type 0
 Makes is_terminal contents says old new before after places make result =
     MakesFiles is_terminal make contents says old new before after
-    (goal_files places make.layers.now make.box_path.now (texts_of make.goals)) result
+    (asked_box_files places make.layers.now make.box_path.now (texts_of make.goals)) result

@@ -5,9 +5,13 @@ use Rattle.resource_tool.specs.declared.opened.Opened.{Opened}
 use Rattle.resource_tool.specs.declared.opened.OpenId.{OpenId}
 use Rattle.resource_tool.specs.declared.check.OpenedCert.{OpenedCert}
 use Rattle.resource_tool.specs.declared.opened_box.OpenedBox.{OpenedBox}
+use Rattle.resource_tool.specs.declared.survey.opened.OpenedSurvey.{OpenedSurvey}
+use Rattle.resource_tool.specs.declared.show.OpenedTrees.{OpenedTrees}
 use Rattle.resource_tool.specs.Opened.{OpenedOf, OpenIdOf}
 use Rattle.resource_tool.specs.CheckOutput.{CheckInputs}
 use Rattle.resource_tool.specs.MakeOutput.{MakeInputs}
+use Rattle.resource_tool.specs.ShowOutput.{ShowInputs}
+use Rattle.resource_tool.specs.SurveyOutput.{SurveyInputs}
 
 -- what commands for one device are asked of
 abbrev pub opened_of : Opened → OpenedOf
@@ -23,3 +27,11 @@ opened_box opened = record { stack = opened.stack; sets = opened.members; rule =
 -- what `check` is asked of
 abbrev pub opened_cert : OpenedCert → CheckInputs
 opened_cert opened = record { stack = opened.stack; sets = opened.members; trees = goals_of opened.certificate; rule = opened.rule }
+
+-- what `survey` is asked of
+abbrev pub opened_survey : OpenedSurvey → SurveyInputs
+opened_survey opened = record { stack = opened.stack; sets = opened.members; rule = opened.rule }
+
+-- what `show` is asked of
+abbrev pub opened_trees : OpenedTrees → ShowInputs
+opened_trees opened = record { stack = opened.stack; trees = goals_of opened.certificate }

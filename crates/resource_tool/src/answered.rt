@@ -1,11 +1,11 @@
-//! How `check` and `make` are answered.
+//! How `make` is answered.
 
 use command_base::Status;
 
 /// How a command was answered, and which of its goals the answer is about.
 #[derive(Clone, Copy)]
-pub struct Answered {
+pub(crate) struct Answered {
     pub status: Status,
-    /// The place of the goal from 0: that at which a certificate is rejected, or the one that has no value on a device.
+    /// The place of the goal from 0: the one that has no value on a device.
     pub about: Option<usize>,
 }

@@ -180,7 +180,8 @@ pub fn check_bytes<W: Write + Drop>(
     ensures headline { IfOk result (HeadlineHolds (map layer_bytes layers.now) box_json.now cert.now (map goal_seen goals.now)
         (W.contents out.old) (W.contents out.new)) }
 {
-    let opened = OpenedCert::read(alloc, layers, box_json, cert)?;
+    let rule = LocaleRule::LanguageAndRegion;
+    let opened = OpenedCert::read_by(alloc, layers, box_json, cert, rule)?;
     Ok(opened.check(alloc, goals, out)?)
 }
 
@@ -195,22 +196,9 @@ pub struct OpenedCert<'a> {
 }
 
 impl<'a> OpenedCert<'a> {
-    /// Opens the layers, and then reads the box and the certificate.
-    pub fn read(
-        alloc: Global,
-        layers: &[LayerParts<&'a [u8]>],
-        box_json: &[u8],
-        cert: &[u8],
-    ) -> Result<OpenedCert<'a>, ToolFault>
-        ensures value { GivesOr OutOfMemory opened_cert result (check_inputs (map layer_bytes layers.now) box_json.now cert.now) }
-        ensures of_input { IsOfInput result }
-    {
-        OpenedCert::read_by(alloc, layers, box_json, cert, LocaleRule::LanguageAndRegion)
-    }
-
-    /// The same, where locales are read and compared by a rule.
+    /// Opens the layers, and then reads the box and the certificate, whose locales are read and compared by a rule.
     #[tactic(auto, unfolding(crate::specs::CheckOutput::check_inputs_by))]
-    pub fn read_by(
+    fn read_by(
         alloc: Global,
         layers: &[LayerParts<&'a [u8]>],
         box_json: &[u8],
@@ -232,7 +220,7 @@ impl<'a> OpenedCert<'a> {
     }
 
     /// What `check_bytes` prints of the same layers, box and certificate.
-    pub fn check<W: Write + Drop>(
+    fn check<W: Write + Drop>(
         &self,
         alloc: Global,
         goals: &[Goal],

@@ -12,7 +12,7 @@ use std::io::{self, Write};
 /// Where names are asked for, writes the goal that an answer is about, by its place in the list, with the names of its
 /// ids. Nothing is written where the answer is about none, or the list has no such place.
 #[tactic(auto, unfolding(crate::specs::GoalTold::goal_told))]
-pub fn write_goal_told<W: Write + Drop>(
+pub(crate) fn write_goal_told<W: Write + Drop>(
     names: &NamesBeside<'_, '_>,
     goals: &[Goal],
     about: Option<usize>,
@@ -29,7 +29,7 @@ pub fn write_goal_told<W: Write + Drop>(
 
 /// The same of any answer.
 #[tactic(auto, unfolding(crate::specs::GoalTold::line_about, crate::specs::GoalTold::line_of))]
-pub fn write_line_about<W: Write + Drop>(
+pub(crate) fn write_line_about<W: Write + Drop>(
     stack: &StackNames<'_, '_>,
     goals: &[Goal],
     about: Option<usize>,

@@ -1,10 +1,9 @@
 //! The command `ids`.
 
-ghost use Rattle.std.specs.Prelude.{◌≡◌, map, None, Ok, IfOk, IfSome};
+ghost use Rattle.std.specs.Prelude.{◌≡◌, None, Ok, IfOk, IfSome};
 ghost use Rattle.contract_words.specs.Writes.{Writes};
 ghost use Rattle.command_base.specs.FilesSeen.{layers_held};
 ghost use Rattle.command_base.specs.Output.{Prints};
-ghost use Rattle.command_base.specs.StackBytesSeen.{layer_bytes};
 ghost use Rattle.command_base.specs.names.IdsOfType.{ids_of_type};
 ghost use Rattle.command_base.specs.overlay_map.Layer.{base_tables};
 ghost use Rattle.command_base.specs.declared.fault.ToolFault.TheVariants.{Write};
@@ -14,8 +13,7 @@ ghost use Rattle.command_base.specs.CarriesOut.{IsKept};
 use crate::text::ended;
 use answer_text::{write_id, write_its_name};
 use command_base::{
-    Inputs, LayerFiles, LayerParts, ResId, Stack, Status, Stop, ToolFault, open_stack,
-    status_or_stop,
+    Inputs, LayerFiles, ResId, Stack, Status, Stop, ToolFault, open_stack, status_or_stop,
 };
 use names::{StackNames, ids_of_type};
 use std::alloc::{AllocError, Global};
@@ -44,6 +42,9 @@ impl<'a> Ids<'a> {
     }
 }
 
+// Prints a line for each id that base layers have rows of, in rising order, with its names beside it. Overlays have none of
+// their own.
+#[tactic(auto, unfolding(crate::specs::TableOutput::ids_output))]
 fn ids_of_files<W: Write + Drop>(
     alloc: Global,
     files: &LayerFiles,
@@ -52,20 +53,7 @@ fn ids_of_files<W: Write + Drop>(
     ensures { Prints W.contents out.old out.new result (ids_output (layers_held files.now)) }
 {
     let layers = files.layers(alloc)?;
-    ids_bytes(alloc, &layers, out)
-}
-
-/// Prints a line for each id that base layers have rows of, in rising order, with its names beside it. Overlays have none of
-/// their own.
-#[tactic(auto, unfolding(crate::specs::TableOutput::ids_output))]
-pub fn ids_bytes<W: Write + Drop>(
-    alloc: Global,
-    layers: &[LayerParts<&[u8]>],
-    out: &mut W,
-) -> Result<Status, ToolFault>
-    ensures { Prints W.contents out.old out.new result (ids_output (map layer_bytes layers.now)) }
-{
-    let stack = open_stack(alloc, layers)?;
+    let stack = open_stack(alloc, &layers)?;
     print_ids(alloc, &stack, out)
 }
 

@@ -1,18 +1,36 @@
-//! The commands that answer from tables, by what their words ask or over bytes, to a writer: `rows` and `dump` of one
-//! table, `map` of a target and an overlay, `ids` of layers; for one device and the layers of a stack `query`, `explain`, `bag` and
-//! `attr`; `device`, of a device alone; for all devices of a box `make` and `check`. `show`, `survey` and `diff` stand in other
-//! crates.
+//! The commands, over the bytes of what their words name and a writer: `rows` and `dump` of one table, `map` of a target and an
+//! overlay, `ids` of layers; for one device and the layers of a stack `query`, `explain`, `bag` and `attr`; `device`, of a
+//! device alone; `show` of a certificate, `survey` of layers and a box; for all devices of a box `make` and `check`, `diff`,
+//! `values` and `unused`.
 //!
 //! For the program above: `answer` of a command reads what its words name, in the order of the definitions, and prints what
 //! that means and nothing else; or it gives why it stops, and has printed nothing, unless a write failed. A call over bytes
 //! does the same of them, and stops at their first fault.
 //!
 //! ```text
-//! let query = Query { layers: "layers.json", device: "device.json", locales: LocaleRule::Android, names: false, words };
+//! let query = Query { layers: "layers.json", device: "device.json", locales: LocaleRule::Android, names: false, android: false, words };
 //! query.answer(alloc, &inputs, &mut out)?; // reads these files, and prints as `query_bytes` does
 //! Map { target: "app.arsc", overlay: "-" }.answer(alloc, &inputs, &mut out, &mut errors)?; // as `map_bytes`
 //! let make = Make { layers: "layers.json", box_path: "box.json", locales: LocaleRule::Android, names: false, omit: false, max_nodes: 100_000, goals };
 //! make.answer(alloc, &inputs, Watch { clock: &rt, is_terminal: true, reached: &reached }, &mut out, &mut errors)?; // with a line of the work
+//!
+//! let survey = Survey { layers: "layers.json", box_path: Some("box.json"), locales: LocaleRule::Android };
+//! survey.answer(alloc, &inputs, &mut out)?; // warning layer 0 compact-entry 12 first 348
+//!                                           // qualifier density rows 2 from 240 to 320
+//!                                           // warning box lacks orientation
+//! let diff = Diff { old: "old.json", new: "new.json", box_path: "box.json", locales: LocaleRule::Android, form: LineForm::Text(Form::Android), max_nodes: 100_000, words };
+//! diff.answer(alloc, &inputs, &mut Unwatched, &mut out)?; // changed dimen/margin 4dp -> absent dimen/margin on sw<600dp land
+//!                                                         // changed style/Card on v>=26
+//!                                                         //   attr/padding 4dp -> 3dp
+//!                                                         // same 40
+//! let values = Values { layers: "layers.json", box_path: "box.json", locales: LocaleRule::Android, form: LineForm::Text(Form::Android), max_nodes: 100_000, words };
+//! values.answer(alloc, &inputs, &mut Unwatched, &mut out)?; // string/cancel "Abbrechen" on de-rAT,de-rCH
+//!                                                           // string/cancel "Cancel" on all but de-rAT,de-rCH
+//!                                                           // resources 1
+//! let unused = Unused { layers: "layers.json", box_path: "box.json", locales: LocaleRule::Android, max_nodes: 100_000, words };
+//! unused.answer(alloc, &inputs, &mut out)?; // overlaid layer 0 string/cancel de "Abbrechen"
+//!                                           // unused layer 0 dimen/gap v19 4dp
+//!                                           // rows 7 unused 1 overlaid 1 unmapped 0 bytes 16
 //!
 //! rows_bytes(alloc, &table, &mut out)?; // row 0x7f010000 [] decimal 5
 //!                                       // rows 1 set-aside 0
@@ -32,46 +50,49 @@
 //! make_bytes(alloc, &layers, &box_json, &goals, 100_000, &mut out)?; // {"goals":[{"id":"0x7f010000","nodes":[{"kind":16, ..
 //! check_bytes(alloc, &layers, &box_json, &certificate, &goals, &mut out)?; // accepted goals 1 nodes 3
 //!                                                                        // set-aside 0
-//!
-//! let opened = Opened::read(alloc, &layers, &device)?; // for several commands, or to look into the stack first
-//! opened.query(alloc, &ids, false, &mut out)?; // as `query_bytes`; so `explain`, `bag` and `attr`
-//! opened.query(alloc, &ids, true, &mut out)?; // 0x7f010000 integer/five value layer 1 decimal 5
-//!                                             // set-aside 0
-//!
-//! let opened = OpenedBox::read(alloc, &layers, &box_json)?; // the same for `make`
-//! let answered = opened.make(alloc, &goals, 100_000, &mut Unwatched, &mut out)?; // as `make_bytes`
-//! write_goal_told(&names, &goals, answered.about, &mut errors)?; // goal 0 0x7f010000 s/k
-//!
-//! let omitting = opened.make_omitting(alloc, &goals, 100_000, &mut Unwatched)?; // goals without a value are left out
-//! opened.print_omitting(alloc, &goals, &omitting, &mut out, &mut errors)?; // to `errors` omitted goal 1 0x7f010001 ..
 //! ```
 #![tactic(auto)]
 
 mod answered;
+mod asked_pairs;
 mod attr;
 mod bag;
 mod box_files;
 mod check;
 mod device;
+mod diff;
 mod dump;
 mod each_goal;
 mod end_status;
 mod explain;
 mod goal_told;
 mod ids;
+mod json_lines;
+mod judged;
+mod laws;
+mod lines;
+mod locale_differences;
 mod make;
 mod map;
 mod no_bag;
 mod omit;
 mod opened;
 mod opened_box;
+mod opened_diff;
 mod progress;
 mod query;
 mod rows;
+mod show;
+mod stack_counts;
+mod survey;
 mod text;
+mod told;
+mod unused;
+mod unused_rows;
+mod value_lines;
+mod values;
 mod verdict_told;
 
-pub use answered::Answered;
 pub use attr::{Attr, attr_bytes};
 pub use bag::{Bag, bag_bytes};
 pub use check::{Check, CheckFiles, OpenCheck, OpenedCert, check_bytes};
@@ -81,15 +102,19 @@ pub use command_base::{
     read_input,
 };
 pub use device::DeviceForm;
+pub use diff::Diff;
 pub use dump::{Dump, dump_bytes};
 pub use explain::{Explain, explain_bytes};
-pub use goal_told::{write_goal_told, write_named_words};
-pub use ids::{Ids, ids_bytes};
-pub use make::{Make, make_bytes, make_bytes_watched};
+pub use goal_told::write_named_words;
+pub use ids::Ids;
+pub use laws::{warnings_tell, whole_trees_are_shown};
+pub use make::{Make, make_bytes};
 pub use map::{Map, map_bytes};
-pub use opened::Opened;
-pub use opened_box::OpenedBox;
 pub use progress::{Reached, Watch};
 pub use query::{Query, query_bytes};
-pub use resource_text::{Goal, Omitted, Omitting, Progress, Unwatched};
+pub use resource_text::{Form, Goal, LineForm};
 pub use rows::{Rows, rows_bytes};
+pub use show::Show;
+pub use survey::Survey;
+pub use unused::Unused;
+pub use values::Values;

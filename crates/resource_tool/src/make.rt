@@ -13,7 +13,7 @@ ghost use Rattle.resource_text.specs.cert_maker.res_value.Goal.{goal_seen};
 ghost use Rattle.resource_text.specs.cert_maker.cert_tree.WrittenJson.{cert_data};
 ghost use Rattle.command_base.specs.answer_text.config_record.DeviceSeen.{device_numbers};
 ghost use Rattle.resource_tool.specs.Answered.{PrintsBothOneOf, status_in, goal_in};
-ghost use Rattle.resource_tool.specs.BoxFiles.{goals_held};
+ghost use Rattle.resource_tool.specs.BoxFiles.{asked_box_held};
 ghost use Rattle.resource_tool.specs.Make.{Makes, MakesFiles, PrintsMade, PrintsTold, PrintsToldFirst, looked_at, make_opened, make_seen, most_goals};
 ghost use Rattle.resource_text.specs.cert_maker.Omitting.{IsOmitting};
 ghost use Rattle.resource_tool.specs.MakeOutput.{IsMakeOutput, IsMakeOutputAbout, IsMakeAnswer, make_inputs, make_inputs_by, counterexample_text, status_of_made, goal_of_made, made_output};
@@ -23,7 +23,7 @@ ghost use Rattle.resource_tool.specs.OpenedSeen.{opened_box};
 ghost use Rattle.command_base.specs.CarriesOut.{IsKept};
 
 use crate::answered::Answered;
-use crate::box_files::GoalFiles;
+use crate::box_files::AskedBoxFiles;
 use crate::goal_told::write_goal_told;
 use crate::opened_box::OpenedBox;
 use crate::progress::{ProgressLine, Watch};
@@ -75,20 +75,20 @@ impl<'a> Make<'a> {
         ensures quiet { watch.entry.is_terminal ≡ false → (self.now.names || self.now.omit) ≡ false → errors.new ≡ errors.old }
         ensures unsaid { watch.entry.is_terminal ≡ false → IsKept errors.old errors.new result }
     {
-        let files = GoalFiles::read(alloc, inputs, self.layers, self.box_path, &self.goals)?;
+        let files = AskedBoxFiles::read(alloc, inputs, self.layers, self.box_path, &self.goals)?;
         self.answer_of(alloc, &files, watch, out, errors)
     }
 
     fn answer_of<C: Clock, O: Write + Drop, E: Write + Drop>(
         &self,
         alloc: Global,
-        files: &GoalFiles,
+        files: &AskedBoxFiles,
         watch: Watch<'_, C>,
         out: &mut O,
         errors: &mut E,
     ) -> Result<Status, Stop<'static>>
         ensures answers { MakesFiles watch.entry.is_terminal self.now O.contents E.contents
-            out.old out.new errors.old errors.new (Ok (goals_held files.now)) result }
+            out.old out.new errors.old errors.new (Ok (asked_box_held files.now)) result }
         ensures unwritten { IsKept out.old out.new result }
         ensures quiet { watch.entry.is_terminal ≡ false → (self.now.names || self.now.omit) ≡ false → errors.new ≡ errors.old }
         ensures unsaid { watch.entry.is_terminal ≡ false → IsKept errors.old errors.new result }
@@ -123,11 +123,11 @@ impl<'a> OpenMake<'a> {
     #[tactic(auto, unfolding(crate::specs::Make::make_opened))]
     fn open(
         alloc: Global,
-        files: &'a GoalFiles,
+        files: &'a AskedBoxFiles,
         asked: &Make<'_>,
     ) -> Result<OpenMake<'a>, Stop<'static>>
         ensures { GivesOrStops make_seen result (looked_at asked.now.omit asked.now.max_nodes
-            (make_opened asked.now.locales (goals_held files.now).layers (goals_held files.now).box_json (goals_held files.now).words)) }
+            (make_opened asked.now.locales (asked_box_held files.now).layers (asked_box_held files.now).box_json (asked_box_held files.now).words)) }
     {
         let named = asked_goals(alloc, &files.words)?;
         let layers = files.layers.layers(alloc)?;
@@ -257,49 +257,13 @@ pub fn make_bytes<W: Write + Drop>(
     ensures { PrintsOneOf (IsMakeOutput (map goal_seen goals.now) max_nodes) W.contents out.old out.new result
         (make_inputs (map layer_bytes layers.now) box_json.now) }
 {
-    make_bytes_watched(
-        alloc,
-        layers,
-        box_json,
-        goals,
-        max_nodes,
-        &mut Unwatched,
-        out,
-    )
-}
-
-/// The same, where `progress` comes to know after each goal how many have their tree.
-pub fn make_bytes_watched<W: Write + Drop, P: Progress>(
-    alloc: Global,
-    layers: &[LayerParts<&[u8]>],
-    box_json: &[u8],
-    goals: &[Goal],
-    max_nodes: u32,
-    progress: &mut P,
-    out: &mut W,
-) -> Result<Status, ToolFault>
-    ensures { PrintsOneOf (IsMakeOutput (map goal_seen goals.now) max_nodes) W.contents out.old out.new result
-        (make_inputs (map layer_bytes layers.now) box_json.now) }
-{
-    let opened = OpenedBox::read(alloc, layers, box_json)?;
-    let answered = opened.make(alloc, goals, max_nodes, progress, out)?;
+    let opened = OpenedBox::read_by(alloc, layers, box_json, LocaleRule::LanguageAndRegion)?;
+    let answered = opened.make(alloc, goals, max_nodes, &mut Unwatched, out)?;
     Ok(answered.status)
 }
 
 impl<'a> OpenedBox<'a> {
-    /// Opens the layers, and then reads the box.
-    pub fn read(
-        alloc: Global,
-        layers: &[LayerParts<&'a [u8]>],
-        box_json: &[u8],
-    ) -> Result<OpenedBox<'a>, ToolFault>
-        ensures value { GivesOr OutOfMemory opened_box result (make_inputs (map layer_bytes layers.now) box_json.now) }
-        ensures of_input { IsOfInput result }
-    {
-        OpenedBox::read_by(alloc, layers, box_json, LocaleRule::LanguageAndRegion)
-    }
-
-    /// The same, where locales are read and compared by a rule.
+    /// Opens the layers, and then reads the box, whose locales are read and compared by a rule.
     #[tactic(auto, unfolding(crate::specs::MakeOutput::make_inputs_by))]
     pub fn read_by(
         alloc: Global,
@@ -319,8 +283,8 @@ impl<'a> OpenedBox<'a> {
         })
     }
 
-    /// What `make_bytes_watched` prints of the same layers and box, and which goal that is about: `write_goal_told` writes its
-    /// names.
+    /// What `make_bytes` prints of the same layers and box, and which goal that is about: `write_goal_told` writes its names.
+    /// `progress` comes to know after each goal how many have their tree.
     pub fn make<W: Write + Drop, P: Progress>(
         &self,
         alloc: Global,

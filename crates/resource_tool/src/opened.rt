@@ -21,7 +21,7 @@ use std::alloc::Global;
 /// The layers that a command is asked of, and the device. The commands are its methods, so that one stack answers
 /// several of them.
 #[derive(Drop)]
-pub struct Opened<'a> {
+pub(crate) struct Opened<'a> {
     pub stack: Stack<'a>,
     pub device: Device,
 }

@@ -7,7 +7,7 @@ use resource_text::ConfigBox;
 
 /// The layers and the box that `make` is asked of.
 #[derive(Drop)]
-pub struct OpenedBox<'a> {
+pub(crate) struct OpenedBox<'a> {
     pub stack: Stack<'a>,
     pub members: ConfigBox,
     /// By which rule the locales of the box are compared.

@@ -9,12 +9,11 @@ use Rattle.resource_tool.specs.command_base.FileWords.{texts_of}
 use Rattle.resource_tool.specs.command_base.Inputs.{Places, layers_of, layers_on_side}
 use Rattle.resource_tool.specs.command_base.StackBytes.{LayerBytes}
 use Rattle.resource_tool.specs.command_base.Stop.{StopOf, stop_of, tool}
-use Rattle.resource_tool.specs.BoxFiles.{box_files, goal_files}
+use Rattle.resource_tool.specs.BoxFiles.{asked_box_files, box_files}
 use Rattle.resource_tool.specs.Check.{check_files}
-use Rattle.report_commands.specs.Survey.{survey_files}
-use Rattle.report_commands.specs.Show.{show_files}
-use Rattle.report_commands.specs.Diff.{diff_files}
-use Rattle.report_commands.specs.Values.{values_files}
+use Rattle.resource_tool.specs.Survey.{survey_files}
+use Rattle.resource_tool.specs.Show.{show_files}
+use Rattle.resource_tool.specs.Diff.{diff_files}
 use Rattle.restool.specs.declared.request.Request.{Request}
 use Rattle.restool.specs.declared.request.Request.TheVariants as asks
 use Rattle.restool.specs.Left.{LayerWordsOf, StopsAt}
@@ -43,17 +42,13 @@ module _ (places : Places) (layers : List ℕ) (stop : StopOf) (at : layers_of p
   unfolding box_files
   box-stops members = rw at refl
 
-  goal-stops : (members : List ℕ) (words : List (List ℕ)) → goal_files places layers members words ≡ Err stop
-  unfolding goal_files
-  goal-stops members words = rw (box-stops members) refl
+  asked-box-stops : (members : List ℕ) (words : List (List ℕ)) → asked_box_files places layers members words ≡ Err stop
+  unfolding asked_box_files
+  asked-box-stops members words = rw (box-stops members) refl
 
   check-stops : (members certificate : List ℕ) (words : List (List ℕ)) → check_files places layers members certificate words ≡ Err stop
   unfolding check_files
   check-stops members certificate words = rw (box-stops members) refl
-
-  values-stops : (members : List ℕ) (words : List (List ℕ)) → values_files places layers members words ≡ Err stop
-  unfolding values_files
-  values-stops members words = rw at refl
 
 diff-stops-old : (places : Places) (old new members : List ℕ) (words : List (List ℕ)) (stop : StopOf) → layers_on_side Old places old ≡ Err stop
     → diff_files places old new members words ≡ Err stop
@@ -86,11 +81,11 @@ module _ {W V : Type 0} (is_terminal : Bool) (contents : W → Option (List ℕ)
   answers places (asks.Explain it) at = λ other. inl (rw (device-stops places it.layers.now (stop_of stop) (at other) it.device.now) refl)
   answers places (asks.Bag it) at = λ other. inl (rw (device-stops places it.layers.now (stop_of stop) (at other) it.device.now) refl)
   answers places (asks.Attr it) at = λ other. inl (rw (asked-stops places it.layers.now (stop_of stop) (at other) it.device.now (texts_of it.styles)) refl)
-  answers places (asks.Make it) at = λ other. inl (rw (goal-stops places it.layers.now (stop_of stop) (at other) it.box_path.now (texts_of it.goals)) refl)
+  answers places (asks.Make it) at = λ other. inl (rw (asked-box-stops places it.layers.now (stop_of stop) (at other) it.box_path.now (texts_of it.goals)) refl)
   answers places (asks.Check it) at = λ other. inl (rw (check-stops places it.layers.now (stop_of stop) (at other) it.box_path.now it.certificate.now (texts_of it.goals)) refl)
   answers places (asks.Diff it) at = λ other. inl (rw (diff-stops places it.old.now it.new.now it.box_path.now (texts_of it.words) (stop_of stop) (at other)) refl)
-  answers places (asks.Values it) at = λ other. inl (rw (values-stops places it.layers.now (stop_of stop) (at other) it.box_path.now (texts_of it.words)) refl)
-  answers places (asks.Unused it) at = λ other. inl (rw (values-stops places it.layers.now (stop_of stop) (at other) it.box_path.now (texts_of it.words)) refl)
+  answers places (asks.Values it) at = λ other. inl (rw (asked-box-stops places it.layers.now (stop_of stop) (at other) it.box_path.now (texts_of it.words)) refl)
+  answers places (asks.Unused it) at = λ other. inl (rw (asked-box-stops places it.layers.now (stop_of stop) (at other) it.box_path.now (texts_of it.words)) refl)
   answers places (asks.Device it) at = λ other. absurd (at other)
 
   pub answers-unread : (known : Option Places) (request : Request) (words : LayerWordsOf) → words ≡ layer_words request

@@ -30,13 +30,13 @@ use Rattle.resource_tool.specs.MakeOutput.{IsMakeAnswer}
 use Rattle.resource_tool.specs.OmitOutput.{IsOmitOutput, LinesFirst}
 use Rattle.resource_tool.specs.Check.{OpenCheckOf, check_files, paths_checked, telling_of}
 use Rattle.resource_tool.specs.CheckOutput.{IsCheckAnswer}
-use Rattle.report_commands.specs.Survey.{SurveyBytes}
-use Rattle.report_commands.specs.SurveyOutput.{survey_output_by}
-use Rattle.report_commands.specs.Show.{ShowBytes, shown_output}
-use Rattle.report_commands.specs.Diff.{OpenDiffOf}
-use Rattle.report_commands.specs.DiffOutput.{IsDiffOutput}
-use Rattle.report_commands.specs.Unused.{IsUnusedOutput, OpenUnusedOf}
-use Rattle.report_commands.specs.ValuesOutput.{IsValuesOutput}
+use Rattle.resource_tool.specs.Survey.{SurveyBytes}
+use Rattle.resource_tool.specs.SurveyOutput.{survey_output_by}
+use Rattle.resource_tool.specs.Show.{ShowBytes, shown_output}
+use Rattle.resource_tool.specs.Diff.{OpenDiffOf}
+use Rattle.resource_tool.specs.DiffOutput.{IsDiffOutput}
+use Rattle.resource_tool.specs.Unused.{IsUnusedOutput, OpenUnusedOf}
+use Rattle.resource_tool.specs.ValuesOutput.{IsValuesOutput}
 use Rattle.restool.specs.declared.request.Request.{Request}
 use Rattle.restool.specs.declared.request.Request.TheVariants as asks
 use Rattle.restool.specs.Request.{Answers, ErrorsGet}

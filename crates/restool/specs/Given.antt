@@ -4,10 +4,10 @@ use Rattle.std.specs.Str.{bytes_eq}
 use Rattle.std.specs.Str.Parse.{IsNumeral, digits_value, without_leading_plus}
 use Rattle.resource_tool.specs.command_base.answer_text.config_record.locales.declared.locale_rule.LocaleRule.{LocaleRule}
 use Rattle.resource_tool.specs.command_base.answer_text.config_record.locales.declared.locale_rule.LocaleRule.TheVariants.{LanguageAndRegion, Android}
-use Rattle.report_commands.specs.resource_text.declared.line_form.LineForm.{LineForm}
-use Rattle.report_commands.specs.resource_text.declared.line_form.LineForm.TheVariants.{Text, Json}
-use Rattle.report_commands.specs.notation.declared.form.Form.{Form}
-use Rattle.report_commands.specs.notation.declared.form.Form.TheVariants as forms
+use Rattle.resource_tool.specs.resource_text.declared.line_form.LineForm.{LineForm}
+use Rattle.resource_tool.specs.resource_text.declared.line_form.LineForm.TheVariants.{Text, Json}
+use Rattle.resource_tool.specs.notation.declared.form.Form.{Form}
+use Rattle.resource_tool.specs.notation.declared.form.Form.TheVariants as forms
 use Rattle.clap.specs.Walk.{Row, first_of, one_of, all_of}
 use Rattle.restool.specs.declared.argument_fault.ArgumentFault.{ArgumentFault}
 use Rattle.restool.specs.declared.argument_fault.ArgumentFault.TheVariants as faults

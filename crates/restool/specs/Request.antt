@@ -36,11 +36,11 @@ use Rattle.resource_tool.specs.AttrOutput.{PrintsAttr}
 use Rattle.resource_tool.specs.DeviceOutput.{PrintsDevice}
 use Rattle.resource_tool.specs.Make.{Makes}
 use Rattle.resource_tool.specs.Check.{Checks}
-use Rattle.report_commands.specs.Survey.{Surveys}
-use Rattle.report_commands.specs.Show.{ShowsTrees}
-use Rattle.report_commands.specs.Diff.{Diffs}
-use Rattle.report_commands.specs.Unused.{TellsUnused}
-use Rattle.report_commands.specs.Values.{TellsValues}
+use Rattle.resource_tool.specs.Survey.{Surveys}
+use Rattle.resource_tool.specs.Show.{ShowsTrees}
+use Rattle.resource_tool.specs.Diff.{Diffs}
+use Rattle.resource_tool.specs.Unused.{TellsUnused}
+use Rattle.resource_tool.specs.Values.{TellsValues}
 use Rattle.resource_tool.specs.command_base.CarriesOut.{IsKept}
 
 -- ---- no words

@@ -15,8 +15,7 @@ use crate::command_line::{
     Argument, DOT, JSON, LOCALES, MAX_NODES, MOST_NODES, NODES_IF_LEFT_OUT, NOTATION, RAW,
 };
 use clap::ArgMatches;
-use report_commands::{Form, LineForm};
-use resource_tool::{LocaleRule, Named};
+use resource_tool::{Form, LineForm, LocaleRule, Named};
 use std::alloc::Global;
 
 /// The word of an argument that takes one, which is required.

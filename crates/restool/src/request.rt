@@ -22,10 +22,9 @@ use crate::command_line::{
 };
 use crate::left::LayerWords;
 use clap::ArgMatches;
-use report_commands::{Diff, Show, Survey, Unused, Values};
 use resource_tool::{
-    Attr, Bag, Check, DeviceForm, Dump, Explain, Ids, Inputs, Make, Map, Query, Rows, Status, Stop,
-    Watch,
+    Attr, Bag, Check, DeviceForm, Diff, Dump, Explain, Ids, Inputs, Make, Map, Query, Rows, Show,
+    Status, Stop, Survey, Unused, Values, Watch,
 };
 use std::alloc::Global;
 use std::io::Write;

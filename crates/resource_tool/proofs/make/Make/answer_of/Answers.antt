@@ -1,7 +1,7 @@
 use Rattle.std.proofs.Common.{inl}
 use Rattle.std.proofs.lemmas.Result.{err_from_is_err_and}
 use Rattle.resource_tool.proofs.Answering.{carried_out}
-use Rattle.resource_tool.specs.BoxFiles.{goals_held}
+use Rattle.resource_tool.specs.BoxFiles.{asked_box_held}
 use Rattle.resource_tool.specs.Make.{PrintsMade, looked_at, make_opened, make_seen}
 use Rattle.resource_tool.proofs.FirstGoals.{carried-looked_at}
 use Rattle.resource_tool.proofs.KeptStreams.{kept-still, made-by-done}
@@ -10,7 +10,7 @@ use Rattle.resource_tool.proofs.make.Make.answer_of.Goals as goal
 pub returns-in_err-make-clause-answers : goal.returns-in_err-make-clause-answers
 returns-in_err-make-clause-answers g c =
     let make = c.args.self.now in
-    let files = goals_held c.args.files.now in
+    let files = asked_box_held c.args.files.now in
     let p = err_from_is_err_and c.from_residual.result c.from_residual.ensures.1 in
     carried-looked_at c.args.watch.is_terminal make.omit make.names make.max_nodes g.O.Write.contents g.E.Write.contents c.args.out.now c.args.out.now c.args.errors.now c.args.errors.now
     (make_opened make.locales files.layers files.box_json files.words) c.from_residual.result
@@ -25,7 +25,7 @@ returns-in_err-make-clause-unsaid g c = λ no_terminal. kept-still c.args.errors
 pub returns-clause-answers : goal.returns-clause-answers
 returns-clause-answers g c =
     let make = c.args.self.now in
-    let files = goals_held c.args.files.now in
+    let files = asked_box_held c.args.files.now in
     let opened = make_opened make.locales files.layers files.box_json files.words in
     carried-looked_at c.args.watch.is_terminal make.omit make.names make.max_nodes g.O.Write.contents g.E.Write.contents c.args.out.now c.answer.new.out c.args.errors.now c.answer.new.errors opened c.status_or_stop.result (
     carried_out

@@ -5,7 +5,7 @@ use Rattle.command_base.specs.answer_text.NameText.{NamesBesideOf}
 use Rattle.resource_tool.specs.MakeOutput.{IsMakeOutputAbout, IsMakeAnswer}
 use Rattle.resource_tool.specs.OpenedSeen.{opened_box}
 use Rattle.resource_tool.proofs.MakeSteps.{told-beside}
-use Rattle.resource_tool.proofs.Told.{nothing-told}
+use Rattle.resource_tool.proofs.ToldAnswers.{nothing-told}
 use Rattle.resource_tool.proofs.make.OpenMake.make.Goals as goal
 
 pub returns-in_err-names-clause-told : goal.returns-in_err-names-clause-told

@@ -4,7 +4,7 @@ use Rattle.std.proofs.lemmas.Result.{err_from_is_err_and}
 use Rattle.command_base.specs.overlay_map.Layer.{LayerOf}
 use Rattle.command_base.specs.Stop.{tool}
 use Rattle.resource_text.specs.cert_maker.res_value.Goal.{GoalSeen, goal_seen}
-use Rattle.resource_tool.specs.BoxFiles.{goals_held}
+use Rattle.resource_tool.specs.BoxFiles.{asked_box_held}
 use Rattle.resource_tool.specs.Make.{OpenMakeOf, make_opened, most_goals, with_first}
 use Rattle.resource_tool.specs.MakeOutput.{MakeInputs}
 use Rattle.resource_tool.proofs.FirstGoals.{none-looked_at, opened-looked_at}
@@ -21,7 +21,7 @@ pub returns-in_err-named : goal.returns-in_err-named
 unfolding make_opened
 returns-in_err-named c =
     let asked = c.args.asked.now in
-    let files = goals_held c.args.files.now in
+    let files = asked_box_held c.args.files.now in
     let p = err_from_is_err_and c.from_residual.result c.from_residual.ensures.1 in
     rw (p.1, p.2) (λ told.
     let stopped = rw c.deref.ensures.value at (c.in_err-named.ensures told) in
@@ -31,7 +31,7 @@ pub returns-in_err-opened : goal.returns-in_err-opened
 unfolding make_opened
 returns-in_err-opened c =
     let asked = c.args.asked.now in
-    let files = goals_held c.args.files.now in
+    let files = asked_box_held c.args.files.now in
     let p = err_from_is_err_and c.from_residual-in_err-opened.result c.from_residual-in_err-opened.ensures.1 in
     let named = rw c.deref.ensures.value at c.in_ok-named.ensures in
     rw (p.1, p.2) (λ told.
@@ -42,7 +42,7 @@ pub returns-in_err-goals : goal.returns-in_err-goals
 unfolding make_opened
 returns-in_err-goals c =
     let asked = c.args.asked.now in
-    let files = goals_held c.args.files.now in
+    let files = asked_box_held c.args.files.now in
     let most = most_goals asked.omit asked.max_nodes in
     let named = rw c.deref.ensures.value at c.in_ok-named.ensures in
     let read = rw (c.deref-2.ensures.value, c.in_ok-layers.ensures, c.deref-3.ensures.value) at c.in_ok-opened.ensures.value in
@@ -59,7 +59,7 @@ pub returns : goal.returns
 unfolding make_opened
 returns c =
     let asked = c.args.asked.now in
-    let files = goals_held c.args.files.now in
+    let files = asked_box_held c.args.files.now in
     let most = most_goals asked.omit asked.max_nodes in
     let named = rw c.deref.ensures.value at c.in_ok-named.ensures in
     let read = rw (c.deref-2.ensures.value, c.in_ok-layers.ensures, c.deref-3.ensures.value) at c.in_ok-opened.ensures.value in

@@ -1,4 +1,0 @@
--- How a loop finds out what the values of a bag are.
-use Rattle.report_commands.proofs.AnySteps.{FindsAllBut-none, FindsAllBut-end}
-
-pub ruleset told_steps = (FindsAllBut-none, FindsAllBut-end)

@@ -1,9 +1,0 @@
-use Rattle.std.proofs.Common.{◌≡◌}
-use Rattle.report_commands.specs.DotText.{character_end}
-use Rattle.report_commands.proofs.dot_text.character_end.Given as goal
-
-abbrev pub invariant-inside : goal.invariant-inside
-invariant-inside l = character_end l.text l.most ≡ character_end l.text l.end
-
-abbrev pub decreases-inside : goal.decreases-inside
-decreases-inside l = l.end

@@ -1,6 +1,0 @@
-use Rattle.chunk_walk.specs.Chunk.{chunk_of}
-use Rattle.report_commands.proofs.EntriesSteps.{notes-within}
-use Rattle.report_commands.proofs.entries.position_count.Goals as goal
-
-pub returns-clause-all : goal.returns-clause-all
-returns-clause-all c = notes-within (chunk_of c.args.chunk.now) c.min.result (cc)

@@ -1,5 +1,0 @@
-use Rattle.std.proofs.Common.{refl}
-use Rattle.report_commands.proofs.opened.read_box.Goals as goal
-
-pub returns : goal.returns
-returns c = (rw (c.in-Some.is, c.in_ok-members.ensures.value) refl, tt)

@@ -1,6 +1,0 @@
-use Rattle.std.proofs.Common.{◌∙◌}
-use Rattle.report_commands.proofs.SameBytes.{same-seen}
-use Rattle.report_commands.proofs.opened_diff.have_same_bytes.Goals as goal
-
-pub returns : goal.returns
-returns c = c.eq.ensures ∙ same-seen c.args.old.now c.args.new.now

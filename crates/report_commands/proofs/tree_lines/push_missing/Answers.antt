@@ -1,6 +1,0 @@
-use Rattle.std.proofs.Common.{refl}
-use Rattle.report_commands.proofs.LineSteps.{MissingAllBut-next}
-use Rattle.report_commands.proofs.tree_lines.push_missing.Goals as goal
-
-pub paths-preserved : goal.paths-preserved
-paths-preserved c = MissingAllBut-next _ _ _ _ _ _ c.in-Some.path _ c.paths.invariant c.in-Some.ensures c.in_ok-push.ensures.items refl

@@ -1,5 +1,0 @@
-use Rattle.report_commands.proofs.LineSteps.{LinesAllBut}
-use Rattle.report_commands.proofs.tree_lines.tree_lines.Given as goal
-
-abbrev pub invariant-loop-number : goal.invariant-loop-number
-invariant-loop-number l = LinesAllBut l.lines.items l.paths l.number l.nodes

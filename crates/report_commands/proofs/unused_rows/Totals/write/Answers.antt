@@ -1,7 +1,0 @@
-use Rattle.std.proofs.Common.{append_assoc}
-use Rattle.report_commands.specs.UnusedOutput.{totals_line}
-use Rattle.report_commands.proofs.unused_rows.Totals.write.Goals as goal
-
-pub returns : goal.returns
-unfolding totals_line
-returns g c = simp append_assoc c.writeln.ensures.bytes

@@ -1,0 +1,10 @@
+use Rattle.std.proofs.KnownBytes.{Appends-trans}
+use Rattle.std.proofs.lemmas.Result.{on_ok_weaker}
+use Rattle.resource_tool.specs.JsonLines.{name_line}
+use Rattle.resource_tool.proofs.json_lines.write_name.Goals as goal
+
+pub returns : goal.returns
+unfolding name_line
+returns g c =
+    let to_name = Appends-trans _ _ _ _ _ c.in_ok-write_all.ensures.bytes c.in_ok-write_all-2.ensures.bytes in
+    on_ok_weaker c.write_all-3.result (λ last. Appends-trans _ _ _ _ _ to_name last) c.write_all-3.ensures.bytes
