@@ -3,7 +3,7 @@
 
     check_schemas.py PROGRAM [SCHEMA..]
 
-for each schema, or for those that are named: layers, id-map, device, box, certificate, diff-line, values-line. Texts that a schema
+for each schema, or for those that are named: layers, id-map, device, box, certificate, diff-line, values-line, check-line, bag-line. Texts that a schema
 judges as restool does stand in ALIKE with the fault that restool tells, none where the text is accepted. In BEYOND are texts
 that restool refuses for what a schema can't say, and in AS_PHONE those of them that it reads with `--locales android`. In LINES are
 the lines, and what is none; what restool prints of random cases check_json.py looks at. The last line is the number of texts."""
@@ -418,6 +418,26 @@ def rows(listed):
     return changed(f'{DEVICES},"rows":[{listed}]')
 
 
+ROW = '{"config":{"qualifiers":{"density":320,"sdk":4},"word":"xhdpi-v4"},"layer":0,"path":"app.apk"}'
+CLAIMED = f'{{"from":{{"layer":1,"path":"theme.apk"}},"value":{DIMENSION}}}'
+
+
+def rejected(before="", between=""):
+    """A line of `check` that says this too."""
+    return f'{{{before}"goal":0,"line":"rejected",{between}"node":0,"rule":"N8","ruleName":"OtherValue"}}'
+
+
+def shown(*ends):
+    """Devices with these ends."""
+    listed = ",".join(f'{{"device":{{"density":160,"locale":"de"}},"end":{end}}}' for end in ends)
+    return f'"devices":[{listed}],'
+
+
+def bag_row(key, value):
+    """A line of `bag` that says this."""
+    return f'{{"id":"0x7f010000","key":{key},"layer":0,"line":"row","path":"app.apk","value":{value}}}'
+
+
 LINES = {
     "diff-line": [
         (contents(f'"after":{{"value":{DIMENSION}}},"before":{{"value":{STRING}}}'), True),
@@ -493,6 +513,45 @@ LINES = {
         ('{"line":"set-aside","new":1,"old":1}', False),
         (SAME, False),
         (rows(f'{{"after":{DIMENSION},"key":0}}'), False),
+    ],
+    "check-line": [
+        ('{"goals":1,"line":"accepted","nodes":3}', True),
+        ('{"failed":1,"goals":2,"line":"failed"}', True),
+        ('{"count":0,"line":"set-aside"}', True),
+        (rejected(), True),
+        (rejected(f'"claimed":{CLAIMED},"devices":[],', '"name":"dimen/handle",'), True),
+        (rejected('"claimed":{"bag":"0x7f010000"},', '"name":"attr/tint under style/A style/B",'), True),
+        (rejected(shown(f'{{"from":{ROW},"value":{DIMENSION}}}', f'{{"bag":"style/A","from":{ROW}}}')), True),
+        (rejected(shown('{"absent":"0x7f010000"}')), True),
+        (rejected(shown('{"tooManyReferences":"dimen/handle"}')), True),
+        (rejected(shown(CLAIMED)), True),
+        ('{"goals":1,"line":"accepted"}', False),
+        ('{"failed":0,"goals":2,"line":"failed"}', False),
+        ('{"count":-1,"line":"set-aside"}', False),
+        (rejected('"claimed":{"absent":"0x7f010000"},'), False),
+        (rejected(f'"claimed":{{"from":{ROW},"value":{DIMENSION}}},'), False),
+        (rejected(shown("{}")), False),
+        (rejected(shown(f'{{"value":{DIMENSION}}}')), False),
+        (rejected(shown(CLAIMED, CLAIMED, CLAIMED)), False),
+        (rejected('"devices":[{"end":{"absent":"0x7f010000"}}],'), False),
+        (rejected('"devices":[{"device":{"density":160,"night":0},"end":{"absent":"0x7f010000"}}],'), False),
+        ('{"goal":0,"line":"rejected","node":0,"rule":"N9","ruleName":"OtherValue"}', False),
+        ('{"line":"rejected","node":0,"rule":"N8","ruleName":"OtherValue"}', False),
+        (SAME, False),
+    ],
+    "bag-line": [
+        (bag_row("0", DIMENSION), True),
+        (bag_row('"other"', STRING), True),
+        (bag_row('"attr/tint"', REFERENCE), True),
+        (bag_row('"0x01010098"', ATTRIBUTE), True),
+        *((f'{{"fault":"{fault}","line":"no bag"}}', True) for fault in ("Absent", "Plain", "BagDepth")),
+        (bag_row("-1", STRING), False),
+        (bag_row('"[0]"', STRING), False),
+        (bag_row("0", "{}"), False),
+        ('{"fault":"OutOfMemory","line":"no bag"}', False),
+        ('{"line":"no bag"}', False),
+        ('{"id":"0x7f010000","key":0,"line":"row","path":"app.apk"}', False),
+        (SAME, False),
     ],
 }
 

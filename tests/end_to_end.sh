@@ -541,6 +541,8 @@ if command -v python3 >/dev/null; then
     ends "what random layers say by a phone's locales" 0 "python3 '$here/tests/check_diff.py' --values --locales android \"\$0\" 400 4"
     ends "random changes and what layers say, as JSON" 0 "python3 '$here/tests/check_json.py' \"\$0\" 200 4"
     ends "the same as JSON by a phone's locales" 0 "python3 '$here/tests/check_json.py' --locales android \"\$0\" 200 4"
+    ends "verdicts and bags as JSON" 0 "python3 '$here/tests/check_answer_json.py' \"\$0\" 100 4"
+    ends "verdicts and bags as JSON by a phone's locales" 0 "python3 '$here/tests/check_answer_json.py' --locales android \"\$0\" 100 4"
     ends "which rows of random layers are unused" 0 "python3 '$here/tests/check_unused.py' \"\$0\" 400 4"
     ends "which are by a phone's locales" 0 "python3 '$here/tests/check_unused.py' --locales android \"\$0\" 400 4"
     ends "pages for reviewers" 0 "python3 '$here/tests/check_review.py' \"\$0\" 60 4"

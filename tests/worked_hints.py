@@ -204,7 +204,7 @@ def of_certificates():
     named = named_table({"dimen/margin": 1})
     certified = {"version": 1, "goals": [second]}
     hint = f"goal 0 of made is 0x7f010001, and {ID} dimen/margin is asked for; {OTHER_BUILD}"
-    for options in ("", "--android "):
+    for options in ("", "--android ", "--json "):
         yield asked(f"check {options}layers box made dimen/margin", hint, made=certified, table=named)
     yield asked("check layers box made @none", made=certified)
 

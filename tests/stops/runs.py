@@ -1,4 +1,5 @@
 """Runs of each command, with what the program prints where nothing is refused. For refusals.py."""
+import json
 import os
 import struct
 import sys
@@ -42,6 +43,11 @@ def bytes_of(path):
 
 def lines(*texts):
     return "".join(f"{text}\n" for text in texts)
+
+
+def json_lines(*said):
+    """Lines of JSON, with the members in order and no spaces."""
+    return lines(*(json.dumps(line, separators=(",", ":"), sort_keys=True) for line in said))
 
 
 PORCELAIN = "examples/porcelain/resources.arsc"
@@ -151,6 +157,18 @@ BAG = lines(
     "0x7f010004 layer 0 hex 0x00000005",
     "0x7f010005 layer 0 ?0x7f010000",
 )
+BAG_JSON = json_lines(
+    *(
+        {"id": name, "key": key, "layer": 0, "line": "row", "path": "rich.arsc", "value": value}
+        for name, key, value in (
+            ("0x01010433", "0x01010433", {"reference": "color/accent", "xml": "@color/accent"}),
+            ("0x7f010000", "attr/cardColor", {"kind": 28, "word": 0xFF111111, "xml": "#ff111111"}),
+            ("0x7f010001", "attr/cardGap", {"kind": 5, "word": 12289, "xml": "48dp"}),
+            ("0x7f010004", "attr/sides", {"kind": 17, "word": 5, "xml": "0x5"}),
+            ("0x7f010005", "attr/chained", {"attribute": "attr/cardColor", "xml": "?attr/cardColor"}),
+        )
+    )
+)
 DEVICE_198 = "locale=de-AT smallestWidthDp=320 screenSize=2 orientation=1 night=1 density=198 sdk=21"
 REJECTED = lines(
     "rejected goal 1 node 0 N6 MixedTrace",
@@ -165,6 +183,28 @@ NOTATED = lines(
     f"  on sw320dp *197dpi* v21: 16dp from {PORCELAIN} (default)",
     "failed 1 of 2 goals",
     "set-aside 1",
+)
+AT_198 = {"density": 198, "locale": "de-AT", "night": 1, "orientation": 1, "screenSize": 2, "sdk": 21, "smallestWidthDp": 320}
+IN_THE_APP = {"config": {"qualifiers": {"density": 320, "sdk": 4}, "word": "xhdpi-v4"}, "layer": 0, "path": TEAPOT}
+OF_THE_OVERLAY = {"layer": 1, "path": PORCELAIN}
+IN_THE_OVERLAY = {"config": {"qualifiers": {}, "word": "(default)"}, **OF_THE_OVERLAY}
+DP_13, DP_16 = ({"kind": 5, "word": word, "xml": xml} for word, xml in ((3329, "13dp"), (4097, "16dp")))
+REJECTED_JSON = json_lines(
+    {
+        "claimed": {"from": OF_THE_OVERLAY, "value": DP_16},
+        "devices": [
+            {"device": AT_198, "end": {"from": IN_THE_APP, "value": DP_13}},
+            {"device": {**AT_198, "density": 197}, "end": {"from": IN_THE_OVERLAY, "value": DP_16}},
+        ],
+        "goal": 1,
+        "line": "rejected",
+        "name": "dimen/handle",
+        "node": 0,
+        "rule": "N6",
+        "ruleName": "MixedTrace",
+    },
+    {"failed": 1, "goals": 2, "line": "failed"},
+    {"count": 1, "line": "set-aside"},
 )
 MADE = lines(
     '{"goals":[{"id":"0x7f050000","nodes":[{"coord":"locale","in":["de-AT","de-CH","de-DE"]},'
@@ -267,6 +307,9 @@ def device_runs():
     yield Run("query --android", ["query", "--android", *query[1:], "0x7f050000"], OF_PHONE, out=told)
     yield Run("explain --android", ["explain", "--android", LAYERS, PHONE, "0x7f050002"], OF_PHONE, out=IN_NOTATION["explain"])
     yield Run("bag --android", ["bag", "--android", *TABLET, "0x7f0c0002"], OF_TABLET, out=IN_NOTATION["bag"], folder=TABLES)
+    yield Run("bag --json", ["bag", "--json", *TABLET, "0x7f0c0002"], OF_TABLET, out=BAG_JSON, folder=TABLES)
+    without = json_lines({"fault": "Plain", "line": "no bag"})
+    yield Run("no bag as JSON", ["bag", "--json", LAYERS, PHONE, "0x7f050000"], OF_PHONE, 1, without)
     yield Run("no bag", ["bag", LAYERS, PHONE, "0x7f050000"], OF_PHONE, 1, "no bag Plain\n")
     styles = ["0x7f010000", "0x7f0c0000", "0x7f0c0001"]
     value = "0x7f010000 value layer 0 argb8 #"
@@ -279,8 +322,8 @@ def word_runs():
     # What the map of the overlay leaves out is found first.
     yield Run("a word of layers", ["query", "+".join(APKS), PHONE, "0x7f050000"], [*APKS, *APKS, PHONE], out=lines(TITLE, "set-aside 1"))
     yield Run("a device as a word", ["query", LAYERS, GERMAN, "0x7f050000"], LAYER_FILES, out=lines(TITLE, "set-aside 1"))
-    json = '"locale":"de-DE","smallestWidthDp":360,"widthDp":360,"heightDp":640,"screenSize":2,"orientation":1,"uiType":1,"night":2'
-    yield Run("device", ["device", GERMAN], out=f"{{{json},\"density\":320,\"sdk\":27}}\n")
+    said = '"locale":"de-DE","smallestWidthDp":360,"widthDp":360,"heightDp":640,"screenSize":2,"orientation":1,"uiType":1,"night":2'
+    yield Run("device", ["device", GERMAN], out=f"{{{said},\"density\":320,\"sdk\":27}}\n")
     yield Run("device --config", ["device", "--config", GERMAN], out=f"{GERMAN}\n")
     yield Run("no word", ["device", "--config", PHONE], [PHONE], 1, err="no word uiType\n")
 
@@ -304,6 +347,9 @@ def box_runs():
     yield Run("rejected", ["check", LAYERS, PHONES, WRONG, *GOALS], [*of_box, WRONG], 1, REJECTED)
     goal = "goal 1 0x7f030000 dimen/handle\n"
     yield Run("check --names", ["check", "--names", LAYERS, PHONES, WRONG, *GOALS], [*of_box, WRONG], 1, REJECTED, goal)
+    yield Run("check --json", ["check", "--json", "--all", LAYERS, PHONES, WRONG, *GOALS], [*of_box, WRONG], 1, REJECTED_JSON)
+    told = json_lines({"goals": 2, "line": "accepted", "nodes": 6}, {"count": 1, "line": "set-aside"})
+    yield Run("accepted as JSON", ["check", "--json", LAYERS, PHONES, CERTIFICATE, *GOALS], [*of_box, CERTIFICATE], out=told)
     yield Run("check --android", ["check", "--android", "--all", LAYERS, PHONES, WRONG, *GOALS], [*of_box, WRONG], 1, NOTATED)
     yield Run("make", ["make", LAYERS, PHONES, *GOALS], of_box, out=MADE)
     yield Run("counter", ["make", LAYERS, PHONES, "0x7f050009"], of_box, 1, COUNTER)

@@ -7,3 +7,4 @@ pub mod LineSteps
 pub mod NoFloat
 pub mod NoFloatLines
 pub mod Mapped
+pub mod VerdictNoFloat

@@ -25,6 +25,10 @@ pub mod ConfigJson
 pub mod LineJson
 pub mod EndJson
 pub mod ExplainJson
+pub mod DeviceJson
+pub mod GoalEndJson
+pub mod VerdictJson
+pub mod BagJson
 pub mod ChangeBlock
 pub mod Unfolded
 pub use Rattle.cert_maker.specs as cert_maker

@@ -78,8 +78,9 @@ fn put_number(
     put(members, alloc, coord.name(), Value::from(number))
 }
 
+/// Puts a locale, unless it has neither a language nor a region.
 #[tactic(auto, unfolding(crate::specs::ConfigJson::with_locale))]
-fn put_locale(
+pub(crate) fn put_locale(
     alloc: Global,
     locale: Locale,
     members: &mut Map<String, Value>,

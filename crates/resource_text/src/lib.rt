@@ -4,7 +4,7 @@
 //! For the crates above: each text is the one that `specs/` defines of its value. What is written straight to a writer, such as a
 //! verdict, appends this text and nothing else, and the only error is the writer's. An answer in Android's notation is made in
 //! memory, so that where that runs out nothing of it is written; `change_block` gives the lines that stand behind the name of a
-//! resource, for people in either form, or the text of a JSON object. Ends and explanations are also given as lines of JSON.
+//! resource, for people in either form, or the text of a JSON object. Ends, explanations, the rows of bags and verdicts are also given as lines of JSON.
 //!
 //! ```text
 //! let naming = Naming::of(alloc, &stack, &paths)?;
@@ -17,6 +17,7 @@
 #![tactic(auto)]
 
 mod attribute;
+mod bag_json;
 mod block;
 mod change_json;
 mod columns;
@@ -24,6 +25,7 @@ mod config_json;
 mod content_json;
 mod content_text;
 mod decision_words;
+mod device_json;
 mod devices;
 mod devices_json;
 mod devices_text;
@@ -34,6 +36,7 @@ mod ends;
 mod explanation;
 mod explanation_json;
 mod goal;
+mod goal_end_json;
 mod last;
 mod line_form;
 mod line_json;
@@ -46,10 +49,12 @@ mod rows_behind;
 mod table_row;
 mod text_json;
 mod verdict;
+mod verdict_json;
 mod whole_bag;
 
 pub use answer_text::{Form, dump_text, end_text, explain, rows_text};
 pub use attribute::attr_text;
+pub use bag_json::bag_rows_json;
 pub use block::change_block;
 pub use cert_maker::{
     Cert, ConfigBox, Goal, Made, Omitted, Omitting, Progress, Rule, Shown, Unwatched, Verdict,
@@ -64,7 +69,7 @@ pub use explanation_json::explain_json;
 pub use line_form::LineForm;
 pub use line_json::write_set_aside_json;
 pub use naming::Naming;
-pub use rejection::{Rejection, write_rejections_in, write_verdict_in};
+pub use rejection::{Rejection, write_rejections_in, write_set_aside_in, write_verdict_in};
 pub use rows::rows_in_notation;
 pub use table_row::write_row_end;
 pub use verdict::{device_with_end, verdict_text};

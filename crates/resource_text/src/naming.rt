@@ -6,7 +6,7 @@ ghost use Rattle.std.specs.Char.{is_ascii_graphic};
 ghost use Rattle.contract_words.specs.Writes.{Writes};
 ghost use Rattle.resource_text.specs.Naming.{path_notation};
 
-use crate::content_json::value_json;
+use crate::content_json::{key_json, row_value_json, value_json};
 use crate::text_json::text_json;
 use answer_text::{
     BagRow, Keys, ResId, RowKey, Stack, Value, value_content, write_id, write_key_notation,
@@ -43,6 +43,7 @@ impl<'s, 'a, 'p> Naming<'s, 'a, 'p> {
     ghost use Rattle.std.specs.Prelude.{◌≡◌, map, string_bytes, IfOk, OnOk};
     ghost use Rattle.contract_words.specs.Writes.{Writes};
     ghost use Rattle.serde_json.specs.View.{view, members_view};
+    ghost use Rattle.resource_text.specs.BagJson.{with_key_and_value, with_row_at};
     ghost use Rattle.resource_text.specs.EndJson.{name_data, with_id, value_data_at, with_layer};
     ghost use Rattle.resource_text.specs.Naming.{id_notation, value_at, key_and_value, row_at, layer_notation};
     ghost use Rattle.answer_text.specs.ContentSeen.{row_key_of};
@@ -213,6 +214,41 @@ impl<'s, 'a, 'p> Naming<'s, 'a, 'p> {
         };
         let path = serde_json::Value::try_from_str(self.alloc, path.as_str())?;
         put(members, self.alloc, "path", path)
+    }
+
+    /// Puts what tells the row of a bag at a place from the others, and what it says.
+    #[tactic(auto, unfolding(crate::specs::BagJson::with_row_at))]
+    pub(crate) fn put_row(
+        &self,
+        keys: Keys,
+        place: usize,
+        row: BagRow,
+        members: &mut Map<String, serde_json::Value>,
+    ) -> Result<(), AllocError>
+        ensures { OnOk result (members_view members.new.entries ≡ with_row_at self.now keys place row (members_view members.old.entries)) }
+    {
+        let key = keys.of_row(self.alloc, &self.stack, place, row.name)?;
+        let put = self.put_key_and_value(&key, row, members);
+        drop(key);
+        put
+    }
+
+    #[tactic(auto, unfolding(crate::specs::BagJson::with_key_and_value))]
+    fn put_key_and_value(
+        &self,
+        key: &RowKey<'_>,
+        row: BagRow,
+        members: &mut Map<String, serde_json::Value>,
+    ) -> Result<(), AllocError>
+        ensures { OnOk result (members_view members.new.entries ≡ with_key_and_value self.now (row_key_of key.now)
+            (value_content self.now.stack row.layer row.value) (members_view members.old.entries)) }
+    {
+        let said = key_json(self.alloc, &self.packages, key)?;
+        put(members, self.alloc, "key", said)?;
+        let value = value_content(self.alloc, &self.stack, row.layer, row.value)?;
+        let json = row_value_json(self.alloc, &self.packages, key, &value);
+        drop(value);
+        put(members, self.alloc, "value", json?)
     }
 }
 

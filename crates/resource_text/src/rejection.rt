@@ -6,12 +6,16 @@ ghost use Rattle.std.specs.Option.{option_copied, option_map};
 ghost use Rattle.contract_words.specs.Writes.{Writes};
 ghost use Rattle.cert_maker.specs.cert_tree.Certificate.{goal_of, goals_of};
 ghost use Rattle.cert_maker.specs.res_value.Goal.{goal_seen};
-ghost use Rattle.resource_text.specs.RejectionNotation.{claim_at, claim_in, claimed_line, fault_words, goal_or_place, rejected_notation, rejection_in, rejection_notation, rejections_in, rule_words, shown_notation, shown_of, verdict_in};
+ghost use Rattle.resource_text.specs.RejectionNotation.{accepted_in, claim_at, claim_in, claimed_line, failed_in, fault_words, goal_or_place, rejected_notation, rejection_in, rejection_notation, rejections_in, rule_words, set_aside_in, shown_notation, shown_of, verdict_in};
 
 use crate::devices::{write_device, write_two_devices};
 use crate::goal::{write_claimed_end, write_goal};
+use crate::line_form::LineForm;
+use crate::line_json::write_set_aside_json;
 use crate::naming::Naming;
-use crate::verdict::{write_accepted, write_failed, write_rejection};
+use crate::verdict::{node_count, write_accepted, write_failed, write_rejection};
+use crate::verdict_json::{write_accepted_json, write_failed_json, write_rejection_json};
+use answer_text::set_aside_line;
 use cert_maker::{Cert, Goal, Rule, Shown, Verdict};
 use cert_tree::{CertGoal, Node};
 use command_base::End;
@@ -40,21 +44,23 @@ impl Rejection {
     }
 }
 
-/// Writes a verdict on a certificate; in Android's notation, where the names of the stack are given.
+/// Writes a verdict on a certificate in a form; without the names of the stack as `verdict_text` does.
 pub fn write_verdict_in<W: Write + Drop>(
     naming: Option<&Naming<'_, '_, '_>>,
+    form: LineForm,
     goals: &[Goal],
     certificate: &Cert,
     verdict: &Verdict,
     out: &mut W,
 ) -> io::Result<()>
-    ensures { Writes W.contents out.old out.new result (verdict_in (option_copied naming.entry) (map goal_seen goals.now)
+    ensures { Writes W.contents out.old out.new result (verdict_in (option_copied naming.entry) form (map goal_seen goals.now)
         (goals_of certificate.now) verdict.now) }
 {
     match verdict {
-        Verdict::Accepted => write_accepted(certificate, out),
+        Verdict::Accepted => write_accepted_in(form, certificate, out),
         Verdict::Rejected { .. } => {
-            write_rejection_in(naming, goals, &Rejection::of(*verdict, certificate), out)
+            let rejection = Rejection::of(*verdict, certificate);
+            write_rejection_in(naming, form, goals, &rejection, out)
         }
     }
 }
@@ -63,48 +69,98 @@ pub fn write_verdict_in<W: Write + Drop>(
 #[tactic(auto, unfolding(crate::specs::RejectionNotation::rejections_in))]
 pub fn write_rejections_in<W: Write + Drop>(
     naming: Option<&Naming<'_, '_, '_>>,
+    form: LineForm,
     goals: &[Goal],
     rejections: &[Rejection],
     of: usize,
     out: &mut W,
 ) -> io::Result<()>
-    ensures { Writes W.contents out.old out.new result (rejections_in (option_copied naming.entry) (map goal_seen goals.now)
+    ensures { Writes W.contents out.old out.new result (rejections_in (option_copied naming.entry) form (map goal_seen goals.now)
         rejections.now of) }
 {
-    write_each(naming, goals, rejections, out)?;
-    write_failed(rejections.len(), of, out)
+    write_each(naming, form, goals, rejections, out)?;
+    write_failed_in(form, rejections.len(), of, out)
+}
+
+/// Writes how many rows are set aside.
+#[tactic(auto, unfolding(crate::specs::RejectionNotation::set_aside_in))]
+pub fn write_set_aside_in<W: Write + Drop>(
+    form: LineForm,
+    count: u128,
+    out: &mut W,
+) -> io::Result<()>
+    ensures { Writes W.contents out.old out.new result (set_aside_in form count) }
+{
+    match form {
+        LineForm::Text(_) => set_aside_line(count, out),
+        LineForm::Json => write_set_aside_json(count, out),
+    }
+}
+
+fn write_accepted_in<W: Write + Drop>(
+    form: LineForm,
+    certificate: &Cert,
+    out: &mut W,
+) -> io::Result<()>
+    ensures { Writes W.contents out.old out.new result (accepted_in form (goals_of certificate.now)) }
+{
+    match form {
+        LineForm::Text(_) => write_accepted(certificate, out),
+        LineForm::Json => {
+            write_accepted_json(certificate.goals.len(), node_count(certificate), out)
+        }
+    }
+}
+
+#[tactic(auto, unfolding(crate::specs::RejectionNotation::failed_in))]
+fn write_failed_in<W: Write + Drop>(
+    form: LineForm,
+    failed: usize,
+    goals: usize,
+    out: &mut W,
+) -> io::Result<()>
+    ensures { Writes W.contents out.old out.new result (failed_in form failed goals) }
+{
+    match form {
+        LineForm::Text(_) => write_failed(failed, goals, out),
+        LineForm::Json => write_failed_json(failed, goals, out),
+    }
 }
 
 #[tactic(auto, using(contract_words::proofs::TextSteps::puts))]
 fn write_each<W: Write + Drop>(
     naming: Option<&Naming<'_, '_, '_>>,
+    form: LineForm,
     goals: &[Goal],
     rejections: &[Rejection],
     out: &mut W,
 ) -> io::Result<()>
     ensures { Writes W.contents out.old out.new result
-        (flat_map (rejection_in (option_copied naming.entry) (map goal_seen goals.now)) rejections.now) }
+        (flat_map (rejection_in (option_copied naming.entry) form (map goal_seen goals.now)) rejections.now) }
 {
     for rejection in rejections {
-        write_rejection_in(naming, goals, rejection, out)?;
+        write_rejection_in(naming, form, goals, rejection, out)?;
     }
     Ok(())
 }
 
 fn write_rejection_in<W: Write + Drop>(
     naming: Option<&Naming<'_, '_, '_>>,
+    form: LineForm,
     goals: &[Goal],
     rejection: &Rejection,
     out: &mut W,
 ) -> io::Result<()>
     ensures { Writes W.contents out.old out.new result
-        (rejection_in (option_copied naming.entry) (map goal_seen goals.now) rejection.now) }
+        (rejection_in (option_copied naming.entry) form (map goal_seen goals.now) rejection.now) }
 {
-    match naming {
-        Some(naming) => {
-            write_notation(naming, goals, rejection.claimed, &rejection.verdict, out)
-        }
-        None => write_rejection(&rejection.verdict, out),
+    let Some(naming) = naming else {
+        return write_rejection(&rejection.verdict, out);
+    };
+    let (claimed, verdict) = (rejection.claimed, &rejection.verdict);
+    match form {
+        LineForm::Text(_) => write_notation(naming, goals, claimed, verdict, out),
+        LineForm::Json => write_rejection_json(naming, goals, claimed, verdict, out),
     }
 }
 

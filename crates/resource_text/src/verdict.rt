@@ -71,8 +71,8 @@ fn write_counts<W: Write + Drop>(goals: usize, nodes: u128, out: &mut W) -> io::
     writeln!(out, "accepted goals {goals} nodes {nodes}")
 }
 
-// How many nodes all goals have.
-fn node_count(certificate: &Cert) -> u128
+/// How many nodes all goals have.
+pub(crate) fn node_count(certificate: &Cert) -> u128
     ensures { result ≡ node_count (goals_of certificate.now) }
 {
     let mut count = 0;

@@ -8,6 +8,7 @@ use Rattle.command_base.specs.declared.status.Status.{Status}
 use Rattle.command_base.specs.Output.{PrintsOneOf}
 use Rattle.command_base.specs.StackBytes.{LayerBytes}
 use Rattle.resource_text.specs.cert_maker.cert_checker.declared.verdict.Verdict.{Verdict}
+use Rattle.resource_text.specs.declared.line_form.LineForm.{LineForm}
 use Rattle.resource_text.specs.declared.rejection.Rejection.{Rejection}
 use Rattle.resource_text.specs.cert_maker.cert_checker.Verdict.{IsVerdict}
 use Rattle.resource_text.specs.cert_maker.cert_checker.Headline.{Headline}
@@ -37,12 +38,12 @@ unfolding goal_told
 said-nothing stack asked [] = refl
 said-nothing stack asked (rejection ∷ rejections) = said-nothing stack asked rejections
 
-all-said : (asked : List GoalSeen) (names all : Bool) (paths : Option (List (List ℕ))) (inputs : CheckInputs) (verdict : Verdict) (goal : Option ℕ) (text lines : List ℕ)
-    → Tells asked (record { names = names; all = all; paths = paths }) inputs verdict goal text lines → said_lines names lines ≡ lines
+all-said : (asked : List GoalSeen) (names all : Bool) (form : LineForm) (paths : List (List ℕ)) (inputs : CheckInputs) (verdict : Verdict) (goal : Option ℕ) (text lines : List ℕ)
+    → Tells asked (record { names = names; all = all; form = form; paths = paths }) inputs verdict goal text lines → said_lines names lines ≡ lines
 unfolding goal_told
-all-said asked true all paths inputs verdict goal text lines told = refl
-all-said asked false all paths inputs verdict None text lines told = sym told.1
-all-said asked false all paths inputs verdict (Some goal) text lines told = sym (told.said ∙ said-nothing inputs.stack asked told.rejections)
+all-said asked true all form paths inputs verdict goal text lines told = refl
+all-said asked false all form paths inputs verdict None text lines told = sym told.1
+all-said asked false all form paths inputs verdict (Some goal) text lines told = sym (told.said ∙ said-nothing inputs.stack asked told.rejections)
 
 -- what is told of a verdict
 pub told-beside : {W V : Type 0} (contents : W → Option (List ℕ)) (says : V → Option (List ℕ)) (old new : W) (before after : V) (asked : List GoalSeen) (telling : TellingOf) (inputs : CheckInputs)
@@ -58,5 +59,5 @@ told-beside contents says old new before after asked telling inputs verdict stat
   refl,
   record { verdict = verdict; right = right; headline = headline; status = ended; told = told },
   put,
-  subst (λ (t : List ℕ). Appends (says before) (says after) t) (all-said asked telling.names telling.all telling.paths inputs verdict (goes_on telling.all verdict) text lines told) said,
+  subst (λ (t : List ℕ). Appends (says before) (says after) t) (all-said asked telling.names telling.all telling.form telling.paths inputs verdict (goes_on telling.all verdict) text lines told) said,
 )

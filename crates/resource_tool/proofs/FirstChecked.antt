@@ -13,8 +13,10 @@ use Rattle.command_base.specs.Output.{Output}
 use Rattle.resource_text.specs.cert_maker.cert_tree.Certificate.{GoalOf}
 use Rattle.resource_text.specs.cert_maker.res_value.Goal.{GoalSeen}
 use Rattle.resource_text.specs.Naming.{NamingOf}
-use Rattle.resource_text.specs.RejectionNotation.{claim_at, rejected_notation, rejection_notation, shown_of, verdict_in}
-use Rattle.command_base.specs.answer_text.QueryText.{set_aside_line}
+use Rattle.resource_text.specs.RejectionNotation.{claim_at, rejected_notation, rejection_notation, set_aside_in, shown_of, verdict_in}
+use Rattle.resource_text.specs.VerdictJson.{rejected_json, rejection_json}
+use Rattle.resource_text.specs.declared.line_form.LineForm.{LineForm}
+use Rattle.resource_text.specs.declared.line_form.LineForm.TheVariants.{Text, Json}
 use Rattle.command_base.specs.SetAside.{rows_set_aside}
 use Rattle.resource_text.specs.cert_maker.cert_checker.declared.rule.Rule.{Rule}
 use Rattle.resource_text.specs.cert_maker.cert_checker.declared.rule.Rule.TheVariants.{GoalList}
@@ -65,18 +67,20 @@ differs-first trees asked g first =
 -- ---- the verdict
 
 -- where a goal is among the first, a rejection at it reads the same
-reads-of-first : (naming : Option NamingOf) (asked : List GoalSeen) (trees : List GoalOf) (n g k : ℕ) (rule : Rule) (shown : Shown) → g < n
-    → verdict_in naming (take n asked) trees (Rejected g k rule shown) ≡ verdict_in naming asked trees (Rejected g k rule shown)
-unfolding rejection_notation
-reads-of-first None asked trees n g k rule shown within = refl
-reads-of-first (Some naming) asked trees n g k rule shown within =
+reads-of-first : (naming : Option NamingOf) (form : LineForm) (asked : List GoalSeen) (trees : List GoalOf) (n g k : ℕ) (rule : Rule) (shown : Shown) → g < n
+    → verdict_in naming form (take n asked) trees (Rejected g k rule shown) ≡ verdict_in naming form asked trees (Rejected g k rule shown)
+unfolding rejection_notation rejection_json
+reads-of-first None form asked trees n g k rule shown within = refl
+reads-of-first (Some naming) (Text form) asked trees n g k rule shown within =
     ap (λ (goal : Option GoalSeen). rejected_notation naming goal g k rule ++ shown_of naming (claim_at trees (Rejected g k rule shown)) goal shown) (first-at n asked g within)
+reads-of-first (Some naming) Json asked trees n g k rule shown within =
+    ap (λ (goal : Option GoalSeen). rejected_json naming goal (claim_at trees (Rejected g k rule shown)) g k rule shown) (first-at n asked g within)
 
 text-of-first : (telling : TellingOf) (asked : List GoalSeen) (inputs : CheckInputs) (n g k : ℕ) (rule : Rule) (shown : Shown) → g < n
     → told_text telling (take n asked) inputs (Rejected g k rule shown) ≡ told_text telling asked inputs (Rejected g k rule shown)
 unfolding told_text
 text-of-first telling asked inputs n g k rule shown within =
-    ap (λ (text : List ℕ). text ++ set_aside_line (rows_set_aside inputs.rule inputs.stack)) (reads-of-first (naming_of telling inputs.stack) asked inputs.trees n g k rule shown within)
+    ap (λ (text : List ℕ). text ++ set_aside_in telling.form (rows_set_aside inputs.rule inputs.stack)) (reads-of-first (naming_of telling inputs.stack) telling.form asked inputs.trees n g k rule shown within)
 
 -- where more goals are asked
 checked-longer : (asked : List GoalSeen) (telling : TellingOf) (inputs : CheckInputs) (output : Output) (lines : List ℕ) → length inputs.trees + 1 ≤ length asked → (verdict : Verdict)

@@ -1,5 +1,5 @@
 -- What the command `bag` prints, and what its words ask.
-use Rattle.std.specs.Prelude.{ℕ, Bool, false, List, [], ◌∷◌, ◌++◌, codes, Option, Result, Ok, Err, if◌then◌else◌}
+use Rattle.std.specs.Prelude.{ℕ, Bool, false, List, [], ◌∷◌, ◌++◌, codes, Option, Result, Ok, Err}
 use Rattle.std.specs.List.{flat_map}
 use Rattle.contract_words.specs.Faults.{◌>>=◌}
 use Rattle.command_base.specs.overlay_map.Layer.{LayerOf}
@@ -11,7 +11,11 @@ use Rattle.command_base.specs.answer_text.bags_themes.declared.bag_fault.BagFaul
 use Rattle.command_base.specs.answer_text.bags_themes.declared.bag_fault.BagFault.TheVariants as of_bag
 use Rattle.command_base.specs.answer_text.bags_themes.Bag.{bag_of}
 use Rattle.command_base.specs.answer_text.LayerText.{layer_text}
+use Rattle.resource_text.specs.notation.declared.form.Form.TheVariants.{Raw, Android}
+use Rattle.resource_text.specs.declared.line_form.LineForm.{LineForm}
+use Rattle.resource_text.specs.declared.line_form.LineForm.TheVariants.{Text, Json}
 use Rattle.resource_text.specs.Naming.{NamingOf}
+use Rattle.resource_text.specs.BagJson.{rows_json}
 use Rattle.resource_text.specs.BagNotation.{rows_told}
 use Rattle.command_base.specs.declared.fault.ToolFault.{ToolFault}
 use Rattle.command_base.specs.declared.status.Status.{Status}
@@ -67,6 +71,28 @@ told_or_reason naming id (Err fault) = no_bag fault
 abbrev pub bag_in_notation : OpenedOf → List (List ℕ) → ℕ → Output
 bag_in_notation asked paths id = told_or_reason (record { stack = asked.stack; paths = paths }) id (bag_of asked.stack id asked.device)
 
+-- The same as lines of JSON.
+
+-- the line of why there is no bag
+unfoldable pub no_bag_json_line : List ℕ → List ℕ
+no_bag_json_line fault = codes "{\"fault\":\"" ++ fault ++ codes "\",\"line\":\"no bag\"}" ++ 10 ∷ []
+
+abbrev pub json_of_reason : BagFault → List ℕ
+json_of_reason of_bag.Absent = no_bag_json_line (codes "Absent")
+json_of_reason of_bag.Plain = no_bag_json_line (codes "Plain")
+json_of_reason of_bag.BagDepth = no_bag_json_line (codes "BagDepth")
+json_of_reason of_bag.OutOfMemory = []
+
+abbrev pub no_bag_json : BagFault → Output
+no_bag_json fault = record { status = Negative; text = json_of_reason fault }
+
+abbrev pub json_or_reason : NamingOf → ℕ → Result (List BagRow) BagFault → Output
+json_or_reason naming id (Ok rows) = record { status = Done; text = rows_json naming id rows }
+json_or_reason naming id (Err fault) = no_bag_json fault
+
+abbrev pub bag_in_json : OpenedOf → List (List ℕ) → ℕ → Output
+bag_in_json asked paths id = json_or_reason (record { stack = asked.stack; paths = paths }) id (bag_of asked.stack id asked.device)
+
 -- What `bag` prints of these layers, a device's text and this id, without names.
 unfoldable pub bag_output : List LayerBytes → List ℕ → ℕ → Result Output ToolFault
 bag_output layers device_json id = do
@@ -75,10 +101,15 @@ bag_output layers device_json id = do
 
 -- ---- what its words ask
 
--- what is printed, where the tables of the layers lie at these paths
+-- in a form, with or without names, where the tables of the layers lie at these paths
+abbrev pub bag_in : LineForm → Bool → List (List ℕ) → OpenIdOf → Output
+bag_in (Text Raw) names paths asked = bag_answer asked.opened asked.id.0 names
+bag_in (Text Android) names paths asked = bag_in_notation asked.opened paths asked.id.0
+bag_in Json names paths asked = bag_in_json asked.opened paths asked.id.0
+
+-- what is printed
 abbrev pub bag_printed : Bag → List (List ℕ) → OpenIdOf → Output
-bag_printed bag paths asked =
-    if bag.android then bag_in_notation asked.opened paths asked.id.0 else bag_answer asked.opened asked.id.0 bag.names
+bag_printed bag paths asked = bag_in bag.form bag.names paths asked
 
 -- the answer from the files, if they are read
 abbrev pub PrintsBagFiles : {W : Type 0} → (W → Option (List ℕ)) → W → W → Bag → Result DeviceBytes StopOf → Result Status Stop → Type 0

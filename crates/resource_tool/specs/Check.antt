@@ -1,6 +1,6 @@
 -- What the words of `check` ask, from what the places have to the answer. First come the words of files, then the faults of
 -- inputs, and then the first word that asks for no resource.
-use Rattle.std.specs.Prelude.{ℕ, ◌+◌, List, [], map, length, take, Option, Some, None, Result, Ok, Err, if◌then◌else◌}
+use Rattle.std.specs.Prelude.{ℕ, ◌+◌, List, [], map, length, take, Option, Result, Ok, Err}
 use Rattle.contract_words.specs.Faults.{◌>>=◌}
 use Rattle.contract_words.specs.Sequences.{joined_each}
 use Rattle.command_base.specs.json_input.Each.{each}
@@ -84,7 +84,7 @@ first_opened meant = meant >>= λ check. Ok (with_first check)
 
 -- how a verdict is told, where the tables of the layers lie at these paths
 abbrev pub telling_of : Check → List (List ℕ) → TellingOf
-telling_of check paths = record { names = check.names; all = check.all; paths = if check.android then Some paths else None }
+telling_of check paths = record { names = check.names; all = check.all; form = check.form; paths = paths }
 
 -- from the files, if they are read
 abbrev pub ChecksFiles : {W V : Type 0} → (W → Option (List ℕ)) → (V → Option (List ℕ)) → W → W → V → V → Check → Result CheckBytes StopOf → Result Status Stop → Type 0

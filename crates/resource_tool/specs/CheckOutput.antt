@@ -1,7 +1,6 @@
 -- What the command `check` prints.
 use Rattle.std.specs.Prelude.{◌≡◌, ℕ, ◌++◌, Bool, List, [], length, Option, Some, None, Result, Ok, if◌then◌else◌}
 use Rattle.std.specs.List.{flat_map}
-use Rattle.std.specs.Option.{option_map}
 use Rattle.contract_words.specs.Faults.{◌>>=◌}
 use Rattle.command_base.specs.answer_text.config_record.locales.declared.locale_rule.LocaleRule.{LocaleRule}
 use Rattle.command_base.specs.answer_text.config_record.locales.declared.locale_rule.LocaleRule.TheVariants.{LanguageAndRegion}
@@ -18,8 +17,11 @@ use Rattle.resource_text.specs.cert_maker.cert_checker.Headline.{Headline}
 use Rattle.command_base.specs.declared.fault.ToolFault.{ToolFault}
 use Rattle.command_base.specs.ToolFault.{fault_of_box, fault_of_certificate}
 use Rattle.command_base.specs.answer_text.QueryText.{set_aside_line}
+use Rattle.resource_text.specs.notation.declared.form.Form.TheVariants.{Raw, Android}
+use Rattle.resource_text.specs.declared.line_form.LineForm.{LineForm}
+use Rattle.resource_text.specs.declared.line_form.LineForm.TheVariants.{Text, Json}
 use Rattle.resource_text.specs.declared.rejection.Rejection.{Rejection}
-use Rattle.resource_text.specs.RejectionNotation.{rejections_in, verdict_in}
+use Rattle.resource_text.specs.RejectionNotation.{rejections_in, set_aside_in, verdict_in}
 use Rattle.resource_text.specs.VerdictText.{verdict_text}
 use Rattle.resource_text.specs.Naming.{NamingOf}
 use Rattle.command_base.specs.declared.status.Status.{Status}
@@ -75,21 +77,27 @@ pub record IsCheckOutput (asked : List GoalSeen) (inputs : CheckInputs) (output 
 
 -- ---- the same as it is asked, and what is said beside it
 
--- How a verdict is told: with names beside it, of all goals; in Android's notation, where paths of the tables of the layers are
--- given.
+-- How a verdict is told: with names beside it, of all goals, and in which form; the tables of the layers lie at these paths.
 pub record TellingOf : Type 0 where
   pub names : Bool
   pub all : Bool
-  pub paths : Option (List (List ℕ))
+  pub form : LineForm
+  pub paths : List (List ℕ)
 
--- the names of the layers, for that notation
+-- the names of the layers, where the form has them
+abbrev pub naming_in : LineForm → NamingOf → Option NamingOf
+naming_in (Text Raw) naming = None
+naming_in (Text Android) naming = Some naming
+naming_in Json naming = Some naming
+
 abbrev pub naming_of : TellingOf → List LayerOf → Option NamingOf
-naming_of telling stack = option_map (λ paths. record { stack = stack; paths = paths }) telling.paths
+naming_of telling stack = naming_in telling.form (record { stack = stack; paths = telling.paths })
 
--- the verdict as it is told, and the same line behind it
+-- the verdict as it is told, and how many rows are set aside
 unfoldable pub told_text : TellingOf → List GoalSeen → CheckInputs → Verdict → List ℕ
 told_text telling asked inputs verdict =
-    verdict_in (naming_of telling inputs.stack) asked inputs.trees verdict ++ set_aside_line (rows_set_aside inputs.rule inputs.stack)
+    verdict_in (naming_of telling inputs.stack) telling.form asked inputs.trees verdict
+    ++ set_aside_in telling.form (rows_set_aside inputs.rule inputs.stack)
 
 -- the goal at which a certificate is rejected
 abbrev pub goal_of_verdict : Verdict → Option ℕ
@@ -105,8 +113,8 @@ goal_told_of stack asked names verdict = goal_told stack asked names (goal_of_ve
 pub record TellsAll (asked : List GoalSeen) (telling : TellingOf) (inputs : CheckInputs) (verdict : Verdict) (text lines : List ℕ) : Type 0 where
   pub rejections : List Rejection
   pub are : AreAllRejections inputs.stack inputs.sets inputs.trees verdict rejections
-  pub printed : text ≡ rejections_in (naming_of telling inputs.stack) asked rejections (length inputs.trees)
-      ++ set_aside_line (rows_set_aside inputs.rule inputs.stack)
+  pub printed : text ≡ rejections_in (naming_of telling inputs.stack) telling.form asked rejections (length inputs.trees)
+      ++ set_aside_in telling.form (rows_set_aside inputs.rule inputs.stack)
   pub said : lines ≡ flat_map (λ rejection. goal_told_of inputs.stack asked telling.names rejection.verdict) rejections
 
 -- the verdict alone, or, where it goes on, all rejections

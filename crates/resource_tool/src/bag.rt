@@ -1,5 +1,6 @@
 //! The command `bag`.
 
+ghost use Rattle.resource_text.specs.BagJson.{rows_json};
 ghost use Rattle.resource_text.specs.BagNotation.{rows_told};
 ghost use Rattle.std.specs.Prelude.{◌≡◌, map, string_bytes, Ok, IfOk, IfSome};
 ghost use Rattle.std.specs.List.{flat_map};
@@ -8,11 +9,11 @@ ghost use Rattle.command_base.specs.FilesSeen.{device_held};
 ghost use Rattle.command_base.specs.Output.{Prints};
 ghost use Rattle.command_base.specs.StackBytesSeen.{layer_bytes};
 ghost use Rattle.command_base.specs.declared.fault.ToolFault.TheVariants.{Write};
-ghost use Rattle.resource_tool.specs.OpenedSeen.{opened_of};
-ghost use Rattle.resource_tool.specs.BagOutput.{bag_row_line, bag_answer, bag_in_notation, bag_output, PrintsBag, PrintsBagFiles};
+ghost use Rattle.resource_tool.specs.OpenedSeen.{id_seen, opened_of};
+ghost use Rattle.resource_tool.specs.BagOutput.{bag_row_line, bag_answer, bag_in_json, bag_in_notation, bag_output, bag_printed, PrintsBag, PrintsBagFiles};
 ghost use Rattle.command_base.specs.CarriesOut.{IsKept};
 
-use crate::no_bag::print_no_bag;
+use crate::no_bag::{print_no_bag, print_no_bag_json};
 use crate::opened::{OpenId, Opened};
 use crate::text::{ended, print_text};
 use answer_text::{NamesBeside, bag, write_id, write_layer, write_value};
@@ -20,7 +21,7 @@ use command_base::{
     BagRow, DeviceFiles, Inputs, LayerParts, LocaleRule, Named, ResId, Status, Stop, ToolFault,
     status_or_stop,
 };
-use resource_text::{Naming, bag_text};
+use resource_text::{Form, LineForm, Naming, bag_rows_json, bag_text};
 use std::alloc::{AllocError, Global};
 use std::io::{self, Write};
 
@@ -35,8 +36,8 @@ pub struct Bag<'a> {
     pub locales: LocaleRule,
     /// Whether the name of each id is printed beside it.
     pub names: bool,
-    /// Whether they are printed in Android's notation, where each id is told by its name.
-    pub android: bool,
+    /// How they are printed; in any form but the raw one by their names.
+    pub form: LineForm,
     /// The resource, by its id or by its name.
     pub resource: Named<'a>,
 }
@@ -72,12 +73,25 @@ impl<'a> Bag<'a> {
             self.locales,
             self.resource,
         )?;
-        status_or_stop(if self.android {
-            let paths = files.layers.paths();
-            asked.opened.bag_in_notation(alloc, paths, asked.id, out)
-        } else {
-            asked.opened.bag(alloc, asked.id, self.names, out)
-        })
+        status_or_stop(self.print(alloc, files.layers.paths(), &asked, out))
+    }
+
+    // Prints them in the form that is asked for, where the tables of the layers lie at these paths.
+    fn print<W: Write + Drop>(
+        &self,
+        alloc: Global,
+        paths: &[String],
+        asked: &OpenId<'_>,
+        out: &mut W,
+    ) -> Result<Status, ToolFault>
+        ensures { Prints W.contents out.old out.new result (Ok (bag_printed self.now (map string_bytes paths.now) (id_seen asked.now))) }
+    {
+        let (opened, id) = (&asked.opened, asked.id);
+        match self.form {
+            LineForm::Text(Form::Raw) => opened.bag(alloc, id, self.names, out),
+            LineForm::Text(Form::Android) => opened.bag_in_notation(alloc, paths, id, out),
+            LineForm::Json => opened.bag_in_json(alloc, paths, id, out),
+        }
     }
 }
 
@@ -147,6 +161,40 @@ impl Opened<'_> {
     {
         let naming = Naming::of(alloc, &self.stack, paths)?;
         bag_text(&naming, id, rows)
+    }
+
+    /// The same as lines of JSON.
+    pub fn bag_in_json<W: Write + Drop>(
+        &self,
+        alloc: Global,
+        paths: &[String],
+        id: ResId,
+        out: &mut W,
+    ) -> Result<Status, ToolFault>
+        ensures { Prints W.contents out.old out.new result (Ok (bag_in_json (opened_of self.now) (map string_bytes paths.now) id.0)) }
+    {
+        match bag(alloc, &self.stack, id, &self.device) {
+            Ok(rows) => {
+                let text = self.rows_as_json(alloc, paths, id, rows.as_slice())?;
+                print_text(Status::Done, &text, out)
+            }
+            Err(fault) => print_no_bag_json(fault, out),
+        }
+    }
+
+    // The lines of its rows.
+    fn rows_as_json(
+        &self,
+        alloc: Global,
+        paths: &[String],
+        id: ResId,
+        rows: &[BagRow],
+    ) -> Result<Vec<u8>, AllocError>
+        ensures { IfOk result (λ text. text.items ≡
+            rows_json (record { stack = self.now.stack; paths = map string_bytes paths.now }) id.0 rows.now) }
+    {
+        let naming = Naming::of(alloc, &self.stack, paths)?;
+        bag_rows_json(&naming, id, rows)
     }
 }
 

@@ -23,7 +23,7 @@ use command_base::{
     asked_words, file_bytes, open_stack, status_or_stop,
 };
 use names::first_goals;
-use resource_text::{Cert, ConfigBox, Goal, Verdict};
+use resource_text::{Cert, ConfigBox, Goal, LineForm, Verdict};
 use std::alloc::Global;
 use std::io::{self, Write};
 
@@ -42,8 +42,8 @@ pub struct Check<'a> {
     pub names: bool,
     /// Whether the rejections of all goals are printed.
     pub all: bool,
-    /// Whether a rejection is printed in Android's notation, where each id is told by its name.
-    pub android: bool,
+    /// How the verdict is printed.
+    pub form: LineForm,
     /// The words that ask for goals, or name a file of such words.
     pub goals: Vec<&'a str>,
 }
@@ -233,9 +233,9 @@ impl<'a> OpenedCert<'a> {
         Ok(status_of_verdict(verdict))
     }
 
-    /// Prints the same, or a rejection in Android's notation; or all rejections, where these are asked for and there are any. Where
-    /// names are asked for, a line with each goal of the list at which the certificate is rejected and its names goes to `errors`,
-    /// after all else was written. The tables of the layers lie at these paths.
+    /// Prints the same in a form; or all rejections, where these are asked for and there are any. Where names are asked for, a line
+    /// with each goal of the list at which the certificate is rejected and its names goes to `errors`, after all else was written. The
+    /// tables of the layers lie at these paths.
     fn tell<W: Write + Drop, E: Write + Drop>(
         self,
         alloc: Global,

@@ -4,8 +4,7 @@ ghost use Rattle.std.specs.Prelude.{◌≡◌, ◌++◌, true, None, Some, map, 
 ghost use Rattle.std.specs.List.{flat_map};
 ghost use Rattle.std.specs.Option.{option_copied};
 ghost use Rattle.contract_words.specs.Writes.{Writes};
-ghost use Rattle.command_base.specs.answer_text.QueryText.{set_aside_line};
-ghost use Rattle.resource_text.specs.RejectionNotation.{rejections_in};
+ghost use Rattle.resource_text.specs.RejectionNotation.{rejections_in, set_aside_in};
 ghost use Rattle.resource_text.specs.cert_maker.cert_checker.Verdict.{IsVerdict};
 ghost use Rattle.resource_text.specs.cert_maker.cert_tree.Certificate.{goals_of};
 ghost use Rattle.resource_text.specs.cert_maker.res_value.Goal.{goal_seen};
@@ -20,7 +19,8 @@ use crate::goal_told::write_goal_told;
 use answer_text::{NamesBeside, set_aside_line};
 use command_base::{Stack, rows_set_aside};
 use resource_text::{
-    Goal, Naming, Rejection, Verdict, verdict_text, write_rejections_in, write_verdict_in,
+    Form, Goal, LineForm, Naming, Rejection, Verdict, verdict_text, write_rejections_in,
+    write_set_aside_in, write_verdict_in,
 };
 use std::alloc::{AllocError, Global};
 use std::io::{self, Write};
@@ -114,6 +114,7 @@ impl OpenedCert<'_> {
         let mut text = Vec::new(alloc);
         let wrote = write_verdict_in(
             naming.as_ref(),
+            asked.form,
             goals,
             &self.certificate,
             verdict,
@@ -121,7 +122,11 @@ impl OpenedCert<'_> {
         );
         drop(naming);
         wrote?;
-        set_aside_line(rows_set_aside(&self.stack, self.rule), &mut text)?;
+        write_set_aside_in(
+            asked.form,
+            rows_set_aside(&self.stack, self.rule),
+            &mut text,
+        )?;
         Ok(text)
     }
 }
@@ -161,7 +166,7 @@ impl Rejections {
         paths: &[String],
     ) -> io::Result<Told>
         ensures printed { IfOk result (λ told. told.text.items ≡ rejections_in (naming_of (telling_of asked.now (map string_bytes paths.now)) stack.now)
-            (map goal_seen goals.now) self.now.all.items self.now.of ++ set_aside_line self.now.set_aside) }
+            asked.now.form (map goal_seen goals.now) self.now.all.items self.now.of ++ set_aside_in asked.now.form self.now.set_aside) }
         ensures said { IfOk result (λ told. told.lines.items ≡ flat_map
             (λ rejection. goal_told_of stack.now (map goal_seen goals.now) asked.now.names rejection.verdict) self.now.all.items) }
     {
@@ -179,14 +184,21 @@ impl Rejections {
         paths: &[String],
     ) -> io::Result<Vec<u8>>
         ensures { IfOk result (λ text. text.items ≡ rejections_in (naming_of (telling_of asked.now (map string_bytes paths.now)) stack.now)
-            (map goal_seen goals.now) self.now.all.items self.now.of ++ set_aside_line self.now.set_aside) }
+            asked.now.form (map goal_seen goals.now) self.now.all.items self.now.of ++ set_aside_in asked.now.form self.now.set_aside) }
     {
         let naming = naming_of(alloc, stack, asked, paths)?;
         let mut text = Vec::new(alloc);
-        let wrote = write_rejections_in(naming.as_ref(), goals, &self.all, self.of, &mut text);
+        let wrote = write_rejections_in(
+            naming.as_ref(),
+            asked.form,
+            goals,
+            &self.all,
+            self.of,
+            &mut text,
+        );
         drop(naming);
         wrote?;
-        set_aside_line(self.set_aside, &mut text)?;
+        write_set_aside_in(asked.form, self.set_aside, &mut text)?;
         Ok(text)
     }
 
@@ -207,7 +219,7 @@ impl Rejections {
     }
 }
 
-// What the ids of a stack are called, where Android's notation is asked for.
+// What the ids of a stack are called, where the form has them.
 fn naming_of<'s, 'a, 'p>(
     alloc: Global,
     stack: &'s Stack<'a>,
@@ -216,7 +228,7 @@ fn naming_of<'s, 'a, 'p>(
 ) -> Result<Option<Naming<'s, 'a, 'p>>, AllocError>
     ensures { IfOk result (λ naming. naming ≡ naming_of (telling_of asked.now (map string_bytes paths.now)) stack.now) }
 {
-    if !asked.android {
+    if let LineForm::Text(Form::Raw) = asked.form {
         return Ok(None);
     }
     let naming = Naming::of(alloc, stack, paths)?;

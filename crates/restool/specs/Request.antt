@@ -19,7 +19,7 @@ use Rattle.restool.specs.declared.request.Command.{Command}
 use Rattle.restool.specs.declared.request.Command.TheVariants.{Rows, Dump, Map, Ids, Survey, Show, Query, Explain, Bag, Attr, Make, Check, Diff, Values, Unused, Device}
 use Rattle.restool.specs.WordsFault.{read_of_words}
 use Rattle.restool.specs.CommandLine.{android, command, device, flag, goal_number, goals, ids, layers, locales, maybe_one_word, maybe_words, names, nodes, one_word, several_words}
-use Rattle.restool.specs.Given.{IsGiven, IsFormGiven, IsLineFormGiven, IsGoalNumber, IsNodeLimit, ReadsAlong, ReadsByRule, rule_named, word_at, words_at}
+use Rattle.restool.specs.Given.{IsGiven, IsAnswerFormGiven, IsFormGiven, IsLineFormGiven, IsGoalNumber, IsNodeLimit, ReadsAlong, ReadsByRule, rule_named, word_at, words_at}
 use Rattle.restool.specs.AskedWords.{asked_word, named_word}
 use Rattle.restool.specs.Left.{LayerWordsOf, no_layers, layers as layers_in, both_layers}
 use Rattle.resource_tool.specs.command_base.FileWords.{texts_of}
@@ -63,12 +63,13 @@ commands =
     ∷ command (codes "show") (flag (codes "raw") ∷ goal_number (codes "dot") ∷ layers ∷ one_word (codes "CERT") ∷ [])
     ∷ command (codes "query") (locales ∷ names ∷ android ∷ layers ∷ device ∷ ids ∷ [])
     ∷ command (codes "explain") (locales ∷ names ∷ android ∷ flag (codes "all") ∷ layers ∷ device ∷ one_word (codes "ID") ∷ [])
-    ∷ command (codes "bag") (locales ∷ names ∷ android ∷ layers ∷ device ∷ one_word (codes "ID") ∷ [])
+    ∷ command (codes "bag") (locales ∷ names ∷ android ∷ flag (codes "json") ∷ layers ∷ device ∷ one_word (codes "ID") ∷ [])
     ∷ command (codes "attr")
     (locales ∷ flag (codes "keep") ∷ names ∷ android ∷ layers ∷ device ∷ one_word (codes "ATTR") ∷ several_words (codes "STYLE") ∷ [])
     ∷ command (codes "make")
     (locales ∷ nodes (codes "max-nodes") ∷ flag (codes "omit") ∷ names ∷ layers ∷ one_word (codes "BOX") ∷ goals ∷ [])
-    ∷ command (codes "check") (locales ∷ names ∷ android ∷ flag (codes "all") ∷ layers ∷ one_word (codes "BOX") ∷ one_word (codes "CERT") ∷ goals ∷ [])
+    ∷ command (codes "check")
+    (locales ∷ names ∷ android ∷ flag (codes "json") ∷ flag (codes "all") ∷ layers ∷ one_word (codes "BOX") ∷ one_word (codes "CERT") ∷ goals ∷ [])
     ∷ command (codes "diff")
     (locales ∷ flag (codes "raw") ∷ flag (codes "json") ∷ nodes (codes "max-nodes") ∷ one_word (codes "OLD") ∷ one_word (codes "NEW") ∷ one_word (codes "BOX") ∷ maybe_words (codes "NAME") ∷ [])
     ∷ command (codes "values")
@@ -181,7 +182,7 @@ IsExplainOf rule rows asked _ = ⊥
 abbrev pub IsBagOf : LocaleRule → List Row → NamedOf → Request → Type 0
 IsBagOf rule rows asked (requests.Bag it) =
     (it.locales ≡ rule) × (it.layers.now ≡ word_at (codes "LAYERS") rows) × (it.device.now ≡ word_at (codes "DEVICE") rows)
-    × IsGiven (codes "names") rows it.names × IsGiven (codes "android") rows it.android × (asked ≡ named_of it.resource)
+    × IsGiven (codes "names") rows it.names × IsAnswerFormGiven rows it.form × (asked ≡ named_of it.resource)
 IsBagOf rule rows asked _ = ⊥
 
 abbrev pub IsAttrOf : LocaleRule → List Row → AttrAsked → Request → Type 0
@@ -201,7 +202,7 @@ IsMakeOf rule rows asked _ = ⊥
 abbrev pub IsCheckOf : LocaleRule → List Row → List (List ℕ) → Request → Type 0
 IsCheckOf rule rows asked (requests.Check it) =
     (it.locales ≡ rule) × (it.layers.now ≡ word_at (codes "LAYERS") rows) × (it.box_path.now ≡ word_at (codes "BOX") rows)
-    × (it.certificate.now ≡ word_at (codes "CERT") rows) × IsGiven (codes "names") rows it.names × IsGiven (codes "android") rows it.android
+    × (it.certificate.now ≡ word_at (codes "CERT") rows) × IsGiven (codes "names") rows it.names × IsAnswerFormGiven rows it.form
     × IsGiven (codes "all") rows it.all × (asked ≡ texts_of it.goals)
 IsCheckOf rule rows asked _ = ⊥
 

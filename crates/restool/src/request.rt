@@ -10,9 +10,9 @@ ghost use Rattle.resource_tool.specs.command_base.CarriesOut.{IsKept};
 
 use crate::argument_fault::ArgumentFault;
 use crate::arguments::{
-    NamedByRule, WordsByRule, asked_by_rule, given_asked, given_flag, given_form,
-    given_goal_number, given_line_form, given_maybe_word, given_nodes, given_rule, given_word,
-    named_by_rule,
+    NamedByRule, WordsByRule, asked_by_rule, given_answer_form, given_asked, given_flag,
+    given_form, given_goal_number, given_line_form, given_maybe_word, given_nodes, given_rule,
+    given_word, named_by_rule,
 };
 use crate::asked_words::Asks;
 use crate::command_line::{
@@ -129,7 +129,7 @@ pub(crate) const USAGES: &[Usage] = &[
     Usage {
         name: BAG,
         about: "Prints the rows of a style, an array or plurals, with those that it inherits",
-        arguments: &[LOCALES, NAMES, NOTATION, LAYERS, DEVICE, BAG_ID],
+        arguments: &[LOCALES, NAMES, NOTATION, JSON, LAYERS, DEVICE, BAG_ID],
     },
     Usage {
         name: ATTR,
@@ -150,6 +150,7 @@ pub(crate) const USAGES: &[Usage] = &[
             LOCALES,
             GOAL_NAMES,
             NOTATION,
+            JSON,
             ALL_GOALS,
             LAYERS,
             BOX,
@@ -339,7 +340,7 @@ fn bag_of<'a>(given: &ArgMatches<'a>) -> Result<Request<'a>, ArgumentFault<'a>>
         device: given_word(given, &DEVICE),
         locales,
         names: given_flag(given, &NAMES),
-        android: given_flag(given, &NOTATION),
+        form: given_answer_form(given),
         resource,
     }))
 }
@@ -386,7 +387,7 @@ fn check_of<'a>(alloc: Global, given: &ArgMatches<'a>) -> Result<Request<'a>, Ar
         certificate: given_word(given, &CERTIFICATE),
         locales,
         names: given_flag(given, &NAMES),
-        android: given_flag(given, &NOTATION),
+        form: given_answer_form(given),
         all: given_flag(given, &ALL_GOALS),
         goals: words,
     }))

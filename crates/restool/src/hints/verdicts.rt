@@ -4,7 +4,7 @@ use crate::hints::Asked;
 use crate::hints::again::Again;
 use crate::hints::text::{Hint, first_line};
 use command_base::{Inputs, LocaleRule, Status};
-use resource_tool::Check;
+use resource_tool::{Check, Form, LineForm};
 use std::io::sink;
 
 /// How the first line of a verdict ends where goals are others than those of the certificate.
@@ -13,6 +13,9 @@ const OTHER_GOALS: &[u8] = b" N1 GoalList";
 /// The same in Android's notation.
 const OTHER_GOALS_IN_WORDS: &[u8] = b" N1 GoalList: the certificate is for other goals";
 
+/// The same as JSON.
+const OTHER_GOALS_IN_JSON: &[u8] = b"\"rule\":\"N1\",\"ruleName\":\"GoalList\"}";
+
 impl<I: Inputs> Asked<'_, '_, I> {
     /// Says where its goals are others; or by which other rule of locales it is true.
     pub(crate) fn say_verdict(&self, check: &Check<'_>, said: &[u8], hint: &mut Hint) {
@@ -20,7 +23,10 @@ impl<I: Inputs> Asked<'_, '_, I> {
             return;
         };
         let line = line.as_bytes();
-        if !line.ends_with(OTHER_GOALS) && !line.ends_with(OTHER_GOALS_IN_WORDS) {
+        if !line.ends_with(OTHER_GOALS)
+            && !line.ends_with(OTHER_GOALS_IN_WORDS)
+            && !line.ends_with(OTHER_GOALS_IN_JSON)
+        {
             return self.say_other_rule(check, hint);
         }
         self.say_goals(check, hint);
@@ -52,7 +58,7 @@ impl<I: Inputs> Asked<'_, '_, I> {
             locales,
             names: false,
             all: false,
-            android: false,
+            form: LineForm::Text(Form::Raw),
             goals,
         };
         let again = Again {

@@ -7,4 +7,4 @@ use Rattle.resource_text.proofs.rejection.write_each.Given as goal
 
 abbrev pub invariant-loop-rejection : goal.invariant-loop-rejection
 invariant-loop-rejection g l =
-    PutsAllBut (rejection_in (option_copied l.naming) (map goal_seen l.goals)) (g.W.Write.contents l.fn.out) (g.W.Write.contents l.out) l.rejections (drop l.rejection-index l.rejections)
+    PutsAllBut (rejection_in (option_copied l.naming) l.form (map goal_seen l.goals)) (g.W.Write.contents l.fn.out) (g.W.Write.contents l.out) l.rejections (drop l.rejection-index l.rejections)

@@ -2,8 +2,7 @@ use Rattle.std.proofs.Common.{◌≡◌, ◌∷◌, ◌++◌, length, map, Resul
 use Rattle.std.specs.Prelude.{IfOk}
 use Rattle.std.specs.List.{flat_map}
 use Rattle.std.proofs.lemmas.List.{length-map}
-use Rattle.command_base.specs.answer_text.QueryText.{set_aside_line}
-use Rattle.resource_text.specs.RejectionNotation.{rejections_in}
+use Rattle.resource_text.specs.RejectionNotation.{rejections_in, set_aside_in}
 use Rattle.resource_text.specs.cert_maker.res_value.Goal.{goal_seen}
 use Rattle.resource_text.specs.declared.rejection.Rejection.{Rejection}
 use Rattle.resource_text.specs.cert_maker.cert_tree.Certificate.{goal_of}
@@ -35,7 +34,7 @@ returns c =
     let found = c.in_ok-all_rejections.ensures in
     let rejections = c.in_ok-all_rejections.field-0.items in
     if-both c.told.result
-    (λ (told : Told). told.text.items ≡ rejections_in (naming_of telling inputs.stack) asked rejections c.len-of.result ++ set_aside_line c.rows_set_aside.result)
+    (λ (told : Told). told.text.items ≡ rejections_in (naming_of telling inputs.stack) telling.form asked rejections c.len-of.result ++ set_aside_in telling.form c.rows_set_aside.result)
     (λ (told : Told). told.lines.items ≡ flat_map (λ (rejection : Rejection). goal_told_of inputs.stack asked telling.names rejection.verdict) rejections)
     (λ (told : Told). TellsAll asked telling inputs c.args.verdict told.text.items told.lines.items)
     (λ told printed said. record {
