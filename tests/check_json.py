@@ -1,17 +1,19 @@
 #!/usr/bin/env python3
-"""Holds what `restool diff --json` and `restool values --json` print against the lines that both print as text:
+"""Holds what `restool diff --json`, `values --json`, `query --json` and `explain --json` print against the lines that they print as
+text:
 
     check_json.py [--locales android] PROGRAM CASES [JOBS [FIRST]]
 
-The cases are those of check_diff.py: of each it is asked what the change alters, and what the layers after it say. Each line has to be
-JSON as it is written compactly, with its members in order, and valid by its schema; those of one name stand in the order of their
-bytes. Written as text the lines have to be those that are printed without --json, by what they have of XML and of devices in words; and
-those of --raw, by kinds, words, strings and names, and by devices as a box has them. The status and what stands on standard error are
-the same.
+The cases are those of check_diff.py: of each it is asked what the change alters, and what the layers after it say; and where all or
+some ids end for a device of the box, and how one does. Each line has to be JSON as it is written compactly, with its members in order,
+and valid by its schema; those of one name stand in the order of their bytes. Written as text the lines have to be those that are
+printed without --json, by what they have of XML and of devices in words; and those of --raw, or without --android, by kinds, words,
+strings and names, and by devices as a box has them. The status and what stands on standard error are the same.
 
 The cases are numbered from FIRST on, which is 0 if it is not given. The last line counts what was compared."""
 import json
 import os
+import random
 import subprocess
 import sys
 import tempfile
@@ -21,8 +23,9 @@ from functools import partial
 from itertools import groupby
 
 from case_words import read_words
-from check_diff import CASES_OF_A_JOB, SHOWN, Case
+from check_diff import CASES_OF_A_JOB, SHOWN, Case, write
 from check_schemas import SCHEMAS, is_valid
+from json_of_device import Notation, Raw, explain_text, ids_of, query_text
 from plain_certificates import id_text
 from plain_diff import OF_ATTRIBUTES, word_read
 from plain_names import said_text
@@ -183,19 +186,66 @@ def run(program, folder, words):
     return Printed(done.stdout.decode(), done.stderr.decode(), done.returncode)
 
 
+def schema_of(command):
+    with open(os.path.join(SCHEMAS, f"{command}-line.json")) as schema:
+        return json.load(schema)
+
+
 def check_case(program, as_phone, folder, number, of_values):
     case = Case(of_values, as_phone, number)
     command, *words = (word for word in case.write(folder) if word != "--raw")
-    with open(os.path.join(SCHEMAS, f"{command}-line.json")) as schema:
-        schema = json.load(schema)
     printed, *as_text = (run(program, folder, [command, *form, *words]) for form in [("--json",), *FORMS])
-    faults, kinds = faults_of(schema, printed, dict(zip(FORMS, as_text)))
+    faults, kinds = faults_of(schema_of(command), printed, dict(zip(FORMS, as_text)))
     return [f"case {number}: {command}: {fault}" for fault in faults], kinds or ["no line"]
+
+
+# ---- what is said of a device
+
+
+class Asked:
+    """The layers of a case and a device of its box, as `query` and `explain` are asked about them."""
+
+    def __init__(self, program, as_phone, folder, number):
+        case = Case(True, as_phone, number)
+        case.write(folder)
+        self.chance = random.Random(number)
+        device = self.chance.choice(case.members)
+        write(folder, "device", json.dumps({name: value for name, value in device.items() if value}).encode())
+        self.run = lambda command, *words: run(program, folder, [command, *case.options, *words])
+        self.names = [line.split(" ")[0] for line in run(program, folder, ["ids", "new"]).text.split("\n")[:-1]]
+
+    def words(self, command):
+        """Those of all resources, of some, or of one."""
+        some = self.chance.choices([*self.names, "0x7fff0000"], k=1 if command == "explain" else self.chance.randint(1, 5))
+        return ["new", "device", *(["*"] if command == "query" and self.chance.random() < 0.5 else some)]
+
+    def faults(self, command, text_of):
+        """The faults of what a command says, whose lines are written as text so, and the kinds of its lines."""
+        words = self.words(command)
+        printed = self.run(command, "--json", *words)
+        lines, faults = read_lines(schema_of(command), printed.text)
+        if faults:
+            return faults, []
+        every, _ = read_lines(schema_of("query"), self.run("query", "--json", *words[:2], "*").text)
+        for form in (Raw(ids_of(every + lines)), Notation(False), Notation(True)):
+            due = self.run(command, *(form.words if command == "explain" else form.words[:1]), *words)
+            text, wanted = text_of(form, lines), form.as_read(due.text.split("\n")[:-1])
+            faults += [f"{words} {form.words} {text}, where {wanted} is due"[:SHOWN]] * (text != wanted)
+            faults += [f"{printed[1:]}, where {due[1:]} is due"] * (printed[1:] != due[1:])
+        return faults, [f"{command} {line['line']}" for line in lines]
+
+
+def check_device(program, as_phone, folder, number):
+    asked = Asked(program, as_phone, folder, number)
+    for command, text_of in (("query", query_text), ("explain", explain_text)):
+        faults, kinds = asked.faults(command, text_of)
+        yield [f"case {number}: {command}: {fault}" for fault in faults], kinds or ["no line"]
 
 
 def check_cases(program, as_phone, numbers):
     with tempfile.TemporaryDirectory() as folder:
-        return [check_case(program, as_phone, folder, number, of_values) for number in numbers for of_values in (False, True)]
+        cases = [check_case(program, as_phone, folder, number, of_values) for number in numbers for of_values in (False, True)]
+        return [*cases, *(told for number in numbers for told in check_device(program, as_phone, folder, number))]
 
 
 def main():

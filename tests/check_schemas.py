@@ -3,7 +3,7 @@
 
     check_schemas.py PROGRAM [SCHEMA..]
 
-for each schema, or for those that are named: layers, id-map, device, box, certificate, diff-line, values-line, check-line, bag-line. Texts that a schema
+for each schema, or for those that are named: layers, id-map, device, box, certificate, diff-line, values-line, query-line, explain-line, check-line, bag-line. Texts that a schema
 judges as restool does stand in ALIKE with the fault that restool tells, none where the text is accepted. In BEYOND are texts
 that restool refuses for what a schema can't say, and in AS_PHONE those of them that it reads with `--locales android`. In LINES are
 the lines, and what is none; what restool prints of random cases check_json.py looks at. The last line is the number of texts."""
@@ -438,6 +438,24 @@ def bag_row(key, value):
     return f'{{"id":"0x7f010000","key":{key},"layer":0,"line":"row","path":"app.apk","value":{value}}}'
 
 
+def placed(qualifiers):
+    """A line of `query` whose row has these qualifiers."""
+    return ended(f'"from":{{"config":{{"qualifiers":{qualifiers},"word":"xhdpi-v4"}},"layer":0}},"value":{DIMENSION}')
+
+
+def ended(members):
+    """A line of `query` with an end that says this."""
+    return f'{{"end":{{{members}}},"id":"0x7f010000","line":"end","name":"dimen/handle"}}'
+
+
+def decided(decision, held=f'{{"value":{REFERENCE}}}'):
+    """A line of `explain` of a candidate that does this."""
+    return f'{{"decision":{{{decision}}},"from":{ROW},"holds":{held},"line":"candidate"}}'
+
+
+LOOK_UP = '{"id":"0x7f010000","line":"look-up","name":"dimen/handle"}'
+
+
 LINES = {
     "diff-line": [
         (contents(f'"after":{{"value":{DIMENSION}}},"before":{{"value":{STRING}}}'), True),
@@ -513,6 +531,49 @@ LINES = {
         ('{"line":"set-aside","new":1,"old":1}', False),
         (SAME, False),
         (rows(f'{{"after":{DIMENSION},"key":0}}'), False),
+    ],
+    "query-line": [
+        *((ended(f'"from":{ROW},"value":{value}'), True) for value in (DIMENSION, STRING, GARBLED, BROKEN, ATTRIBUTE)),
+        (ended(f'"bag":"style/Card","from":{ROW}'), True),
+        (ended('"absent":"0x7f010000"'), True),
+        (ended('"tooManyReferences":"dimen/handle"'), True),
+        (placed("{}"), True),
+        (placed('{"locale":"de-AT","script":"4c61746e","variant":"706f6c79746f6e69"}'), True),
+        (placed('{"locale":"x80ff0000"}'), True),
+        ('{"count":0,"line":"set-aside"}', True),
+        (ended(f'"value":{DIMENSION}'), False),
+        (ended(f'"from":{ROW}'), False),
+        (ended(f'"absent":"dimen/handle","from":{ROW}'), False),
+        (ended(f'"from":{{"layer":0}},"value":{DIMENSION}'), False),
+        (placed('{"density":0}'), False),
+        (placed('{"density":"320"}'), False),
+        (placed('{"dpi":320}'), False),
+        (placed('{"locale":"deutsch"}'), False),
+        (placed('{"script":"Latn"}'), False),
+        ('{"end":{"absent":"dimen/handle"},"id":"dimen/handle","line":"end","name":"dimen/handle"}', False),
+        ('{"end":{"absent":"dimen/handle"},"id":"0x7f010000","line":"end"}', False),
+        ('{"line":"set-aside"}', False),
+        (LOOK_UP, False),
+    ],
+    "explain-line": [
+        (LOOK_UP, True),
+        *((decided(f'"did":"{did}","words":"{did}"'), True) for did in ("set aside", "first", "took over equal", "kept out")),
+        (decided('"did":"no match","qualifier":"density","words":"no match: density"'), True),
+        (decided('"did":"took over","rule":"P15","words":"took over: density (P15)"'), True),
+        (decided('"did":"first","words":"first"', '{"bag":"style/Card"}'), True),
+        (f'{{"end":{{"from":{ROW},"value":{DIMENSION}}},"line":"end"}}', True),
+        (decided('"did":"first"'), False),
+        (decided('"did":"lost","words":"lost"'), False),
+        (decided('"did":"no match","words":"no match: density"'), False),
+        (decided('"did":"no match","qualifier":"dpi","words":"no match: dpi"'), False),
+        (decided('"did":"first","rule":"P15","words":"first"'), False),
+        (decided('"did":"kept out","rule":"P24","words":"kept out"'), False),
+        (decided('"did":"kept out","rule":15,"words":"kept out"'), False),
+        (decided('"did":"first","words":"first"', "{}"), False),
+        (decided('"did":"first","words":"first"', '{"absent":"dimen/handle"}'), False),
+        ('{"id":"0x7f010000","line":"look-up"}', False),
+        (ended('"absent":"0x7f010000"'), False),
+        ('{"count":0,"line":"set-aside"}', False),
     ],
     "check-line": [
         ('{"goals":1,"line":"accepted","nodes":3}', True),

@@ -4,6 +4,7 @@ import os
 import struct
 import sys
 from collections import namedtuple
+from json import dumps
 
 HERE = os.path.dirname(os.path.dirname(os.path.dirname(os.path.abspath(__file__))))
 sys.path.append(os.path.join(HERE, "bench"))
@@ -124,6 +125,39 @@ EXPLAINED = lines(
     "candidate 3 layer 1 [] kept out P3",
     "candidate 4 layer 1 [locale=de] took over equal",
     "end value layer 1 string 1",
+)
+
+
+def as_json(line):
+    return dumps(line, ensure_ascii=False, separators=(",", ":"), sort_keys=True)
+
+
+def row_as_json(path, word, **qualifiers):
+    return {"config": {"qualifiers": qualifiers, "word": word}, "layer": int(path == PORCELAIN), "path": path}
+
+
+def candidate_as_json(words, did, value, row, **reason):
+    held = {"string": value, "xml": f'"{value}"'} if "/" not in value else {"reference": value, "xml": f"@{value}"}
+    return as_json({"decision": {"did": did, "words": words, **reason}, "from": row, "holds": {"value": held}, "line": "candidate"})
+
+
+END_AS_JSON = {"from": row_as_json(PORCELAIN, "de", locale="de"), "value": {"string": "Porzellankanne", "xml": '"Porzellankanne"'}}
+QUERIED_AS_JSON = lines(
+    as_json({"end": END_AS_JSON, "id": "0x7f050000", "line": "end", "name": "string/title"}), '{"count":1,"line":"set-aside"}'
+)
+EQUAL = "took over: same configuration, of an overlay"
+EXPLAINED_AS_JSON = lines(
+    as_json({"id": "0x7f050002", "line": "look-up", "name": "string/brand"}),
+    candidate_as_json("first", "first", "string/title", row_as_json(TEAPOT, "(default)")),
+    as_json({"id": "0x7f050000", "line": "look-up", "name": "string/title"}),
+    candidate_as_json("first", "first", "Teapot", row_as_json(TEAPOT, "(default)")),
+    candidate_as_json("took over: locale (P3)", "took over", "Teekanne", row_as_json(TEAPOT, "de", locale="de"), rule="P3"),
+    candidate_as_json(
+        "no match: locale", "no match", "Théière", row_as_json(TEAPOT, "fr-rCA", locale="fr-CA"), qualifier="locale"
+    ),
+    candidate_as_json("kept out: locale (P3)", "kept out", "Porcelain teapot", row_as_json(PORCELAIN, "(default)"), rule="P3"),
+    candidate_as_json(EQUAL, "took over equal", "Porzellankanne", row_as_json(PORCELAIN, "de", locale="de")),
+    as_json({"end": END_AS_JSON, "line": "end"}),
 )
 IN_NOTATION = {
     "rows": lines(
@@ -306,6 +340,8 @@ def device_runs():
     told = lines(f'string/title "Porzellankanne" from {PORCELAIN} de', "set-aside 1")
     yield Run("query --android", ["query", "--android", *query[1:], "0x7f050000"], OF_PHONE, out=told)
     yield Run("explain --android", ["explain", "--android", LAYERS, PHONE, "0x7f050002"], OF_PHONE, out=IN_NOTATION["explain"])
+    yield Run("query --json", ["query", "--json", *query[1:], "0x7f050000"], OF_PHONE, out=QUERIED_AS_JSON)
+    yield Run("explain --json", ["explain", "--json", LAYERS, PHONE, "0x7f050002"], OF_PHONE, out=EXPLAINED_AS_JSON)
     yield Run("bag --android", ["bag", "--android", *TABLET, "0x7f0c0002"], OF_TABLET, out=IN_NOTATION["bag"], folder=TABLES)
     yield Run("bag --json", ["bag", "--json", *TABLET, "0x7f0c0002"], OF_TABLET, out=BAG_JSON, folder=TABLES)
     without = json_lines({"fault": "Plain", "line": "no bag"})

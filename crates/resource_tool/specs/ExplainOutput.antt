@@ -1,10 +1,14 @@
 -- What the command `explain` prints, and what its words ask.
-use Rattle.std.specs.Prelude.{ℕ, Bool, false, List, Option, Result, Ok, if◌then◌else◌}
+use Rattle.std.specs.Prelude.{ℕ, Bool, false, List, Option, Result, Ok}
 use Rattle.contract_words.specs.Faults.{◌>>=◌}
 use Rattle.command_base.specs.overlay_map.Layer.{LayerOf}
 use Rattle.command_base.specs.answer_text.reference_resolver.Ends.{references_followed, end_of}
 use Rattle.command_base.specs.answer_text.ExplainText.{explain_text}
+use Rattle.resource_text.specs.ExplainJson.{explain_json}
 use Rattle.resource_text.specs.ExplainNotation.{explain_notation}
+use Rattle.resource_text.specs.declared.line_form.LineForm.{LineForm}
+use Rattle.resource_text.specs.declared.line_form.LineForm.TheVariants.{Text, Json}
+use Rattle.resource_text.specs.notation.declared.form.Form.TheVariants.{Android, Raw}
 use Rattle.command_base.specs.declared.fault.ToolFault.{ToolFault}
 use Rattle.command_base.specs.declared.status.Status.{Status}
 use Rattle.command_base.specs.declared.stop.Stop.{Stop}
@@ -35,6 +39,13 @@ explain_in_notation asked paths all id = record {
   text = explain_notation (record { stack = asked.stack; paths = paths }) all asked.device id;
 }
 
+-- What it prints as lines of JSON, where the tables of the layers lie at these paths.
+abbrev pub explain_in_json : OpenedOf → List (List ℕ) → ℕ → Output
+explain_in_json asked paths id = record {
+  status = explain_status asked.stack asked.device id;
+  text = explain_json (record { stack = asked.stack; paths = paths }) asked.device id;
+}
+
 -- What `explain` prints of these layers, a device's text and this id, without names.
 unfoldable pub explain_output : List LayerBytes → List ℕ → ℕ → Result Output ToolFault
 explain_output layers device_json id = do
@@ -43,11 +54,14 @@ explain_output layers device_json id = do
 
 -- ---- what its words ask
 
--- what is printed, where the tables of the layers lie at these paths
+-- what is printed in this form, where the tables of the layers lie at these paths
+abbrev pub printed_in : LineForm → Explain → List (List ℕ) → OpenIdOf → Output
+printed_in (Text Raw) explain paths asked = explain_answer asked.opened asked.id.0 explain.names
+printed_in (Text Android) explain paths asked = explain_in_notation asked.opened paths explain.all asked.id.0
+printed_in Json explain paths asked = explain_in_json asked.opened paths asked.id.0
+
 abbrev pub explain_printed : Explain → List (List ℕ) → OpenIdOf → Output
-explain_printed explain paths asked =
-    if explain.android then explain_in_notation asked.opened paths explain.all asked.id.0
-    else explain_answer asked.opened asked.id.0 explain.names
+explain_printed explain paths asked = printed_in explain.form explain paths asked
 
 -- the answer from the files, if they are read
 abbrev pub ExplainsFiles : {W : Type 0} → (W → Option (List ℕ)) → W → W → Explain → Result DeviceBytes StopOf → Result Status Stop → Type 0

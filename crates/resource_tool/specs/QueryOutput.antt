@@ -11,7 +11,11 @@ use Rattle.command_base.specs.overlay_map.Layer.{LayerOf}
 use Rattle.command_base.specs.answer_text.reference_resolver.declared.end.End.{End}
 use Rattle.command_base.specs.answer_text.reference_resolver.Ends.{references_followed, end_of}
 use Rattle.command_base.specs.answer_text.QueryText.{query_line, set_aside_line}
+use Rattle.resource_text.specs.EndJson.{ends_json}
 use Rattle.resource_text.specs.EndNotation.{ends_notation}
+use Rattle.resource_text.specs.declared.line_form.LineForm.{LineForm}
+use Rattle.resource_text.specs.declared.line_form.LineForm.TheVariants.{Text, Json}
+use Rattle.resource_text.specs.notation.declared.form.Form.TheVariants.{Android, Raw}
 use Rattle.command_base.specs.declared.fault.ToolFault.{ToolFault}
 use Rattle.command_base.specs.declared.status.Status.{Status}
 use Rattle.command_base.specs.declared.status.Status.TheVariants.{Done, Negative}
@@ -64,6 +68,13 @@ notation_text stack paths device ids =
 abbrev pub query_notation : OpenedOf → List (List ℕ) → List ResId → Output
 query_notation asked paths ids = record { status = query_status asked.stack asked.device ids; text = notation_text asked.stack paths asked.device ids }
 
+-- What it prints as lines of JSON, where the tables of the layers lie at these paths.
+abbrev pub query_json : OpenedOf → List (List ℕ) → List ResId → Output
+query_json asked paths ids = record {
+  status = query_status asked.stack asked.device ids;
+  text = ends_json (record { stack = asked.stack; paths = paths }) asked.device ids;
+}
+
 -- What `query` prints of these layers, a device's text and these ids, without names.
 unfoldable pub query_output : List LayerBytes → List ℕ → List ResId → Result Output ToolFault
 query_output layers device_json ids = do
@@ -88,15 +99,16 @@ query_opened rule layers device words = do
   ids ← found_or_stop (ids_named opened.stack sets)
   Ok (record { opened = opened; ids = ids })
 
--- what is printed of them, in Android's notation or with or without names, where the tables of the layers lie at these paths
-abbrev pub query_printed : Bool → Bool → List (List ℕ) → OpenQueryOf → Output
-query_printed android names paths asked =
-    if android then query_notation asked.opened paths asked.ids else query_answer asked.opened asked.ids names
+-- what is printed of them in this form, with or without names, where the tables of the layers lie at these paths
+abbrev pub query_printed : LineForm → Bool → List (List ℕ) → OpenQueryOf → Output
+query_printed (Text Raw) names paths asked = query_answer asked.opened asked.ids names
+query_printed (Text Android) names paths asked = query_notation asked.opened paths asked.ids
+query_printed Json names paths asked = query_json asked.opened paths asked.ids
 
 -- the answer from the files, if they are read
 abbrev pub QueriesFiles : {W : Type 0} → (W → Option (List ℕ)) → W → W → Query → Result AskedBytes StopOf → Result Status Stop → Type 0
 QueriesFiles contents old new query read result =
-    CarriesOut (λ asked done. Prints contents old new done (Ok (query_printed query.android query.names (paths_asked read) asked)))
+    CarriesOut (λ asked done. Prints contents old new done (Ok (query_printed query.form query.names (paths_asked read) asked)))
     (read >>= λ files. query_opened query.locales files.layers files.device files.words) result
 
 -- the answer from what the places have

@@ -1,5 +1,6 @@
 //! The command `explain`.
 
+ghost use Rattle.resource_text.specs.ExplainJson.{explain_json};
 ghost use Rattle.resource_text.specs.ExplainNotation.{explain_notation};
 ghost use Rattle.command_base.specs.answer_text.config_record.DeviceSeen.{device_numbers};
 ghost use Rattle.std.specs.Prelude.{◌≡◌, map, string_bytes, Ok, IfOk, IfSome};
@@ -7,8 +8,8 @@ ghost use Rattle.command_base.specs.FilesSeen.{device_held};
 ghost use Rattle.command_base.specs.Output.{Prints};
 ghost use Rattle.command_base.specs.StackBytesSeen.{layer_bytes};
 ghost use Rattle.command_base.specs.declared.fault.ToolFault.TheVariants.{Write};
-ghost use Rattle.resource_tool.specs.OpenedSeen.{opened_of};
-ghost use Rattle.resource_tool.specs.ExplainOutput.{explain_answer, explain_in_notation, explain_output, Explains, ExplainsFiles};
+ghost use Rattle.resource_tool.specs.OpenedSeen.{opened_of, id_seen};
+ghost use Rattle.resource_tool.specs.ExplainOutput.{explain_answer, explain_in_notation, explain_in_json, explain_output, explain_printed, Explains, ExplainsFiles};
 ghost use Rattle.command_base.specs.CarriesOut.{IsKept};
 
 use crate::end_status::status_of_end;
@@ -19,7 +20,7 @@ use command_base::{
     DeviceFiles, Inputs, LayerParts, LocaleRule, Named, ResId, Status, Stop, ToolFault,
     status_or_stop,
 };
-use resource_text::{Naming, explain_text};
+use resource_text::{Form, LineForm, Naming, explain_json, explain_text};
 use std::alloc::{AllocError, Global};
 use std::io::Write;
 
@@ -34,8 +35,8 @@ pub struct Explain<'a> {
     pub locales: LocaleRule,
     /// Whether the name of each id is printed beside it.
     pub names: bool,
-    /// Whether it is printed in Android's notation, where each id is told by its name.
-    pub android: bool,
+    /// How it is printed: by ids and indexes, in Android's notation, where each id is told by its name, or as lines of JSON.
+    pub form: LineForm,
     /// Whether candidates that do not match are printed in Android's notation too.
     pub all: bool,
     /// The resource, by its id or by its name.
@@ -73,14 +74,27 @@ impl<'a> Explain<'a> {
             self.locales,
             self.resource,
         )?;
-        status_or_stop(if self.android {
-            let paths = files.layers.paths();
-            asked
-                .opened
-                .explain_in_notation(alloc, paths, self.all, asked.id, out)
-        } else {
-            asked.opened.explain(alloc, asked.id, self.names, out)
-        })
+        status_or_stop(self.print(alloc, files.layers.paths(), &asked, out))
+    }
+
+    // Prints it in the form that is asked for, where the tables of the layers lie at these paths.
+    fn print<W: Write + Drop>(
+        &self,
+        alloc: Global,
+        paths: &[String],
+        asked: &OpenId<'_>,
+        out: &mut W,
+    ) -> Result<Status, ToolFault>
+        ensures { Prints W.contents out.old out.new result (Ok (explain_printed self.now (map string_bytes paths.now) (id_seen asked.now))) }
+    {
+        let (opened, id) = (&asked.opened, asked.id);
+        match self.form {
+            LineForm::Text(Form::Raw) => opened.explain(alloc, id, self.names, out),
+            LineForm::Text(Form::Android) => {
+                opened.explain_in_notation(alloc, paths, self.all, id, out)
+            }
+            LineForm::Json => opened.explain_in_json(alloc, paths, id, out),
+        }
     }
 }
 
@@ -133,6 +147,35 @@ impl Opened<'_> {
         let text = self.explanation(alloc, paths, all, id)?;
         let status = status_of_end(resolve(&self.stack, id, &self.device));
         print_text(status, &text, out)
+    }
+
+    /// The same as lines of JSON, of all candidates.
+    pub fn explain_in_json<W: Write + Drop>(
+        &self,
+        alloc: Global,
+        paths: &[String],
+        id: ResId,
+        out: &mut W,
+    ) -> Result<Status, ToolFault>
+        ensures { Prints W.contents out.old out.new result (Ok (explain_in_json (opened_of self.now) (map string_bytes paths.now) id.0)) }
+    {
+        let lines = self.explanation_as_json(alloc, paths, id)?;
+        let status = status_of_end(resolve(&self.stack, id, &self.device));
+        print_text(status, &lines, out)
+    }
+
+    // Its lines.
+    fn explanation_as_json(
+        &self,
+        alloc: Global,
+        paths: &[String],
+        id: ResId,
+    ) -> Result<Vec<u8>, AllocError>
+        ensures { IfOk result (λ lines. lines.items ≡
+            explain_json (record { stack = self.now.stack; paths = map string_bytes paths.now }) (device_numbers self.now.device) id.0) }
+    {
+        let naming = Naming::of(alloc, &self.stack, paths)?;
+        explain_json(&naming, &self.device, id)
     }
 
     // Its text.

@@ -8,8 +8,8 @@
 //! does the same of them, and stops at their first fault.
 //!
 //! ```text
-//! let query = Query { layers: "layers.json", device: "device.json", locales: LocaleRule::Android, names: false, android: false, words };
-//! query.answer(alloc, &inputs, &mut out)?; // reads these files, and prints as `query_bytes` does
+//! let query = Query { layers: "layers.json", device: "device.json", locales: LocaleRule::Android, names: false, form: LineForm::Json, words };
+//! query.answer(alloc, &inputs, &mut out)?; // reads these files, and prints what `query_bytes` does as JSON
 //! Map { target: "app.arsc", overlay: "-" }.answer(alloc, &inputs, &mut out, &mut errors)?; // as `map_bytes`
 //! let make = Make { layers: "layers.json", box_path: "box.json", locales: LocaleRule::Android, names: false, omit: false, max_nodes: 100_000, goals };
 //! make.answer(alloc, &inputs, Watch { clock: &rt, is_terminal: true, reached: &reached }, &mut out, &mut errors)?; // with a line of the work

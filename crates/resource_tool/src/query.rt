@@ -1,5 +1,6 @@
 //! The command `query`.
 
+ghost use Rattle.resource_text.specs.EndJson.{ends_json};
 ghost use Rattle.resource_text.specs.EndNotation.{ends_notation};
 ghost use Rattle.std.specs.Prelude.{◌≡◌, ◌++◌, map, string_bytes, Ok, IfOk, IfSome};
 ghost use Rattle.contract_words.specs.Writes.{Writes};
@@ -16,18 +17,19 @@ ghost use Rattle.command_base.specs.StackBytesSeen.{layer_bytes};
 ghost use Rattle.command_base.specs.Stop.{GivesOrStops};
 ghost use Rattle.command_base.specs.declared.fault.ToolFault.TheVariants.{Write};
 ghost use Rattle.resource_tool.specs.OpenedSeen.{opened_of};
-ghost use Rattle.resource_tool.specs.QueryOutput.{end_for, is_unresolved_for, line_of, query_status, query_text, query_answer, query_notation, query_output, query_seen, query_opened, Queries, QueriesFiles};
+ghost use Rattle.resource_tool.specs.QueryOutput.{end_for, is_unresolved_for, line_of, query_status, query_text, query_answer, query_notation, query_json, query_output, query_printed, query_seen, query_opened, Queries, QueriesFiles};
 ghost use Rattle.command_base.specs.CarriesOut.{IsKept};
 
 use crate::end_status::is_unresolved;
 use crate::opened::Opened;
+use crate::text::print_text;
 use answer_text::{NamesBeside, query_line, resolve, set_aside_line};
 use command_base::{
     AskedFiles, Device, DeviceText, End, Inputs, LayerFiles, LayerParts, LocaleRule, ResId, Stack,
     Status, Stop, ToolFault, asked_sets, rows_set_aside, status_or_stop,
 };
 use names::ids_named;
-use resource_text::{Naming, ends_text};
+use resource_text::{Form, LineForm, Naming, ends_json, ends_text};
 use std::alloc::{AllocError, Global};
 use std::io::{self, Write};
 
@@ -42,8 +44,8 @@ pub struct Query<'a> {
     pub locales: LocaleRule,
     /// Whether the name of each id is printed beside it.
     pub names: bool,
-    /// Whether they are printed in Android's notation, where each id is told by its name.
-    pub android: bool,
+    /// How they are printed: by ids and indexes, in Android's notation, where each id is told by its name, or as lines of JSON.
+    pub form: LineForm,
     /// The words that ask for resources, or name a file of such words.
     pub words: Vec<&'a str>,
 }
@@ -79,14 +81,28 @@ impl<'a> Query<'a> {
             self.locales,
             &files.words,
         )?;
-        status_or_stop(if self.android {
-            let paths = files.layers.paths();
-            asked
-                .opened
-                .query_in_notation(alloc, paths, &asked.ids, out)
-        } else {
-            asked.opened.query(alloc, &asked.ids, self.names, out)
-        })
+        status_or_stop(self.print(alloc, files.layers.paths(), &asked, out))
+    }
+
+    // Prints them in the form that is asked for, where the tables of the layers lie at these paths.
+    fn print<W: Write + Drop>(
+        &self,
+        alloc: Global,
+        paths: &[String],
+        asked: &OpenQuery<'_>,
+        out: &mut W,
+    ) -> Result<Status, ToolFault>
+        ensures { Prints W.contents out.old out.new result
+            (Ok (query_printed self.now.form self.now.names (map string_bytes paths.now) (query_seen asked.now))) }
+    {
+        let opened = &asked.opened;
+        match self.form {
+            LineForm::Text(Form::Raw) => opened.query(alloc, &asked.ids, self.names, out),
+            LineForm::Text(Form::Android) => {
+                opened.query_in_notation(alloc, paths, &asked.ids, out)
+            }
+            LineForm::Json => opened.query_in_json(alloc, paths, &asked.ids, out),
+        }
     }
 }
 
@@ -164,6 +180,35 @@ impl Opened<'_> {
         write_notation(&self.stack, &self.device, &text, out)?;
         let unresolved = has_unresolved(&self.stack, &self.device, ids);
         Ok(Status::negative_if(unresolved))
+    }
+
+    /// The same as lines of JSON.
+    pub fn query_in_json<W: Write + Drop>(
+        &self,
+        alloc: Global,
+        paths: &[String],
+        ids: &[ResId],
+        out: &mut W,
+    ) -> Result<Status, ToolFault>
+        ensures { Prints W.contents out.old out.new result (Ok (query_json (opened_of self.now) (map string_bytes paths.now) ids.now)) }
+    {
+        let lines = self.ends_as_json(alloc, paths, ids)?;
+        let unresolved = has_unresolved(&self.stack, &self.device, ids);
+        print_text(Status::negative_if(unresolved), &lines, out)
+    }
+
+    // All these lines.
+    fn ends_as_json(
+        &self,
+        alloc: Global,
+        paths: &[String],
+        ids: &[ResId],
+    ) -> Result<Vec<u8>, AllocError>
+        ensures { IfOk result (λ lines. lines.items ≡
+            ends_json (record { stack = self.now.stack; paths = map string_bytes paths.now }) (device_numbers self.now.device) ids.now) }
+    {
+        let naming = Naming::of(alloc, &self.stack, paths)?;
+        ends_json(&naming, &self.device, ids)
     }
 
     // The text of where the ids end.

@@ -61,8 +61,8 @@ commands =
     ∷ command (codes "ids") (layers ∷ [])
     ∷ command (codes "survey") (locales ∷ layers ∷ maybe_one_word (codes "BOX") ∷ [])
     ∷ command (codes "show") (flag (codes "raw") ∷ goal_number (codes "dot") ∷ layers ∷ one_word (codes "CERT") ∷ [])
-    ∷ command (codes "query") (locales ∷ names ∷ android ∷ layers ∷ device ∷ ids ∷ [])
-    ∷ command (codes "explain") (locales ∷ names ∷ android ∷ flag (codes "all") ∷ layers ∷ device ∷ one_word (codes "ID") ∷ [])
+    ∷ command (codes "query") (locales ∷ names ∷ android ∷ flag (codes "json") ∷ layers ∷ device ∷ ids ∷ [])
+    ∷ command (codes "explain") (locales ∷ names ∷ android ∷ flag (codes "all") ∷ flag (codes "json") ∷ layers ∷ device ∷ one_word (codes "ID") ∷ [])
     ∷ command (codes "bag") (locales ∷ names ∷ android ∷ flag (codes "json") ∷ layers ∷ device ∷ one_word (codes "ID") ∷ [])
     ∷ command (codes "attr")
     (locales ∷ flag (codes "keep") ∷ names ∷ android ∷ layers ∷ device ∷ one_word (codes "ATTR") ∷ several_words (codes "STYLE") ∷ [])
@@ -169,13 +169,13 @@ IsShowOf rows _ = ⊥
 abbrev pub IsQueryOf : LocaleRule → List Row → List (List ℕ) → Request → Type 0
 IsQueryOf rule rows asked (requests.Query it) =
     (it.locales ≡ rule) × (it.layers.now ≡ word_at (codes "LAYERS") rows) × (it.device.now ≡ word_at (codes "DEVICE") rows)
-    × IsGiven (codes "names") rows it.names × IsGiven (codes "android") rows it.android × (asked ≡ texts_of it.words)
+    × IsGiven (codes "names") rows it.names × IsAnswerFormGiven rows it.form × (asked ≡ texts_of it.words)
 IsQueryOf rule rows asked _ = ⊥
 
 abbrev pub IsExplainOf : LocaleRule → List Row → NamedOf → Request → Type 0
 IsExplainOf rule rows asked (requests.Explain it) =
     (it.locales ≡ rule) × (it.layers.now ≡ word_at (codes "LAYERS") rows) × (it.device.now ≡ word_at (codes "DEVICE") rows)
-    × IsGiven (codes "names") rows it.names × IsGiven (codes "android") rows it.android × IsGiven (codes "all") rows it.all
+    × IsGiven (codes "names") rows it.names × IsAnswerFormGiven rows it.form × IsGiven (codes "all") rows it.all
     × (asked ≡ named_of it.resource)
 IsExplainOf rule rows asked _ = ⊥
 

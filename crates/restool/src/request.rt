@@ -119,12 +119,12 @@ pub(crate) const USAGES: &[Usage] = &[
     Usage {
         name: QUERY,
         about: "Prints the value that a device loads for each id",
-        arguments: &[LOCALES, NAMES, NOTATION, LAYERS, DEVICE, IDS],
+        arguments: &[LOCALES, NAMES, NOTATION, JSON, LAYERS, DEVICE, IDS],
     },
     Usage {
         name: EXPLAIN,
         about: "Prints each candidate for an id, and the rule by which it won or lost",
-        arguments: &[LOCALES, NAMES, NOTATION, ALL, LAYERS, DEVICE, ID],
+        arguments: &[LOCALES, NAMES, NOTATION, ALL, JSON, LAYERS, DEVICE, ID],
     },
     Usage {
         name: BAG,
@@ -311,7 +311,7 @@ fn query_of<'a>(alloc: Global, given: &ArgMatches<'a>) -> Result<Request<'a>, Ar
         device: given_word(given, &DEVICE),
         locales,
         names: given_flag(given, &NAMES),
-        android: given_flag(given, &NOTATION),
+        form: given_answer_form(given),
         words,
     }))
 }
@@ -325,7 +325,7 @@ fn explain_of<'a>(given: &ArgMatches<'a>) -> Result<Request<'a>, ArgumentFault<'
         device: given_word(given, &DEVICE),
         locales,
         names: given_flag(given, &NAMES),
-        android: given_flag(given, &NOTATION),
+        form: given_answer_form(given),
         all: given_flag(given, &ALL),
         resource,
     }))

@@ -11,28 +11,23 @@ use Rattle.resource_tool.specs.OpenedSeen.{id_seen}
 use Rattle.resource_tool.proofs.Answering.{carried_out, kept_by_done}
 use Rattle.resource_tool.proofs.explain.Explain.answer_of.Given.{Over}
 use Rattle.resource_tool.proofs.explain.Explain.answer_of.Goals as goal
-use Rattle.resource_tool.proofs.explain.Explain.answer_of.Goals.{then-self, else-self}
 
--- either form of the answer
-printed : (g : Over) (c : goal.After-drop-asked g) → Prints g.W.Write.contents c.args.out.now c.if-self.out c.if-self.status_or_stop
+-- the answer in its form
+printed : (g : Over) (c : goal.After-drop-asked g) → Prints g.W.Write.contents c.args.out.now c.print.new.out c.print.result
     (Ok (explain_printed c.args.self.now (paths_read (Ok (device_held c.args.files.now))) (id_seen c.in_ok-asked.asked)))
-printed g c =
-    elim c.if-self.branch [
-      | then-self w ↦ rw (w.out-is, w.status_or_stop-is, w.if-self.true) (rw w.paths-paths.ensures at w.explain_in_notation.ensures)
-      | else-self w ↦ rw (w.out-is, w.status_or_stop-is, w.if-self.false) w.explain.ensures
-    ]
+printed g c = rw c.paths.ensures at c.print.ensures
 
 pub returns-clause-answers : goal.returns-clause-answers
 returns-clause-answers g c =
     let explain = c.args.self.now in
     let paths : List (List ℕ) = paths_read (Ok (device_held c.args.files.now)) in
     carried_out
-    (λ (asked : OpenIdOf) (done : Result Status ToolFault). Prints g.W.Write.contents c.args.out.now c.if-self.out done (Ok (explain_printed explain paths asked)))
-    _ (id_seen c.in_ok-asked.asked) c.if-self.status_or_stop c.status_or_stop.result c.in_ok-asked.ensures (printed g c) c.status_or_stop.ensures
+    (λ (asked : OpenIdOf) (done : Result Status ToolFault). Prints g.W.Write.contents c.args.out.now c.print.new.out done (Ok (explain_printed explain paths asked)))
+    _ (id_seen c.in_ok-asked.asked) c.print.result c.status_or_stop.result c.in_ok-asked.ensures (printed g c) c.status_or_stop.ensures
 
 pub returns-clause-unwritten : goal.returns-clause-unwritten
 returns-clause-unwritten g c =
-    kept_by_done g.W.Write.contents c.args.out.now c.if-self.out _ c.if-self.status_or_stop c.status_or_stop.result (printed g c) c.status_or_stop.ensures
+    kept_by_done g.W.Write.contents c.args.out.now c.print.new.out _ c.print.result c.status_or_stop.result (printed g c) c.status_or_stop.ensures
 
 pub returns-in_err-asked-clause-answers : goal.returns-in_err-asked-clause-answers
 returns-in_err-asked-clause-answers g c =

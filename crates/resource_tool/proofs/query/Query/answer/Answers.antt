@@ -14,7 +14,7 @@ returns-in_err-files-clause-answers g c =
     let out = c.args.out.now in
     let p = err_from_is_err_and c.from_residual.result c.from_residual.ensures.1 in
     rw (p.1, p.2) (
-    stops_unread (λ read (asked : OpenQueryOf) done. Prints g.W.Write.contents out out done (Ok (query_printed query.android query.names (paths_asked read) asked)))
+    stops_unread (λ read (asked : OpenQueryOf) done. Prints g.W.Write.contents out out done (Ok (query_printed query.form query.names (paths_asked read) asked)))
     (λ files. query_opened query.locales files.layers files.device files.words)
     (g.I.Inputs.places c.args.inputs.now) (λ places. asked_files places query.layers.now query.device.now (map (λ word. word.now) query.words.items))
     c.in_err-files.field-0.0 (rw c.deref.ensures.value at c.in_err-files.ensures)
