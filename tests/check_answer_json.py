@@ -1,10 +1,10 @@
 #!/usr/bin/env python3
-"""Holds what `restool check --json` and `restool bag --json` print against what both print as text:
+"""Holds what `restool check --json`, `restool bag --json` and `restool attr --json` print against what they print as text:
 
     check_answer_json.py [--locales android] PROGRAM CASES [JOBS [FIRST]]
 
 The cases are those of check_certificates.py: of each its certificate is checked, with --all and without, and some ids are asked for
-their bags at a device of the box. Each line has to be JSON as it is written compactly, with its members in order, and valid by its
+their bags at a device of the box, and its attributes for where they end. Each line has to be JSON as it is written compactly, with its members in order, and valid by its
 schema. It has to say what the lines of text say, those without --android by kinds, words, ids and devices, those with it by names,
 paths and XML. The status and what stands on standard error are the same.
 
@@ -22,7 +22,8 @@ import check_json
 from case_files import Files, device_of
 from case_words import read_words
 from check_schemas import SCHEMAS
-from plain_certificates import certificate_json, goal_word
+from plain_bags import Attribute
+from plain_certificates import certificate_json, goal_word, id_text
 from plain_rejections import WORDS
 from random_cases import CertifiedCase
 from random_locales import CertifiedLocaleCase
@@ -106,6 +107,46 @@ FORMS = {
 """How lines are written as text, by the words that ask for it."""
 
 
+def raw_attribute(lines):
+    yield f"{lines[0]['id']} {raw_end(lines[-1]['end'])}"
+
+
+def hidden_text(shown, hidden):
+    """The line of candidates that do not match."""
+    return [f"{hidden}{' more' * (shown > 0)} {'row does' if hidden == 1 else 'rows do'} not match"] * (hidden > 0)
+
+
+def noted_attribute(lines):
+    """The lines with one space between columns."""
+    shown = hidden = 0
+    for line in lines:
+        kind = line["line"]
+        if kind == "candidate":
+            matches = line["decision"]["did"] not in ("no match", "set aside")
+            shown, hidden = shown + matches, hidden + (not matches)
+            row, held = line["from"], line["holds"]
+            said = held["value"]["xml"] if "value" in held else "bag"
+            yield from [f"{path_of(row)} {row['config']['word']} {said} {line['decision']['words']}"] * matches
+            continue
+        yield from hidden_text(shown, hidden)
+        shown = hidden = 0
+        if kind == "style":
+            value = [line["value"]["xml"], path_of(line)] if "value" in line else []
+            yield " ".join([line["name"], *value, line["decision"]])
+        else:
+            yield noted_end(line["end"]) if kind == "end" else line["name"]
+
+
+WHOLE = {(): raw_attribute, ("--android",): noted_attribute}
+"""How all lines of `attr` are written as text."""
+
+
+def all_texts(option, lines):
+    if lines[0]["line"] == "attribute":
+        return list(WHOLE[option](lines))
+    return [text for line in lines for text in line_texts(FORMS[option], line)]
+
+
 def line_texts(form, line):
     kind = line["line"]
     if kind == "no bag":
@@ -130,10 +171,10 @@ def faults_of(schema, files, command, *words):
     lines, faults = check_json.read_lines(schema, printed[0])
     if faults:
         return faults, []
-    for option, form in FORMS.items():
+    for option in FORMS:
         due = files.streams(command, *option, *words)
-        told = [text for line in lines for text in line_texts(form, line)]
-        wanted = [seen(text) for text in due[0].splitlines()]
+        told = all_texts(option, lines)
+        wanted = [" ".join(text.split()) if command == "attr" else seen(text) for text in due[0].splitlines()]
         faults += [] if told == wanted else [f"as {option} {str(told)[:SHOWN]}, where {str(wanted)[:SHOWN]} is due"]
         faults += [] if printed[1:] == due[1:] else [f"{printed[1:]}, where {due[1:]} is due"]
     return faults, [line["line"] for line in lines]
@@ -151,6 +192,9 @@ def questions(files, case, chance):
     files.write("device", {name: value for name, value in chance.choice(case.members).items() if value})
     ids = [line.split(" ", 1)[0] for line in files.run("ids", "layers")[0]]
     yield from (("bag", "layers", "device", name) for name in chance.sample(ids, min(IDS_ASKED, len(ids))))
+    for goal in (goal for goal in case.asked if isinstance(goal, Attribute)):
+        words = ["layers", "device", *map(id_text, (goal.attr, *goal.styles))]
+        yield from (("attr", *keep, *words) for keep in ((), ("--keep",)))
 
 
 def check_case(program, case_of, number):

@@ -3,7 +3,7 @@
 
     check_schemas.py PROGRAM [SCHEMA..]
 
-for each schema, or for those that are named: layers, id-map, device, box, certificate, diff-line, values-line, query-line, explain-line, check-line, bag-line. Texts that a schema
+for each schema, or for those that are named: layers, id-map, device, box, certificate, diff-line, values-line, query-line, explain-line, check-line, bag-line, attr-line. Texts that a schema
 judges as restool does stand in ALIKE with the fault that restool tells, none where the text is accepted. In BEYOND are texts
 that restool refuses for what a schema can't say, and in AS_PHONE those of them that it reads with `--locales android`. In LINES are
 the lines, and what is none; what restool prints of random cases check_json.py looks at. The last line is the number of texts."""
@@ -433,6 +433,11 @@ def shown(*ends):
     return f'"devices":[{listed}],'
 
 
+def styled(members):
+    """The line of a style that sets the attribute first."""
+    return f'{{"decision":"first","id":"0x7f010000",{members}}}'
+
+
 def bag_row(key, value):
     """A line of `bag` that says this."""
     return f'{{"id":"0x7f010000","key":{key},"layer":0,"line":"row","path":"app.apk","value":{value}}}'
@@ -598,6 +603,19 @@ LINES = {
         (rejected('"devices":[{"device":{"density":160,"night":0},"end":{"absent":"0x7f010000"}}],'), False),
         ('{"goal":0,"line":"rejected","node":0,"rule":"N9","ruleName":"OtherValue"}', False),
         ('{"line":"rejected","node":0,"rule":"N8","ruleName":"OtherValue"}', False),
+        (SAME, False),
+    ],
+    "attr-line": [
+        ('{"id":"0x7f010000","line":"attribute","name":"attr/tint"}', True),
+        ('{"decision":"not set","id":"0x7f010000","line":"style","name":"style/A"}', True),
+        (styled(f'"layer":0,"line":"style","name":"style/A","path":"app.apk","value":{DIMENSION}'), True),
+        ('{"id":"0x7f010000","line":"look-up","name":"color/ink"}', True),
+        (f'{{"end":{CLAIMED},"line":"end"}}', True),
+        ('{"end":{"absent":"attr/tint"},"line":"end"}', True),
+        ('{"fault":"Plain","line":"no bag"}', True),
+        (styled('"line":"style","name":"style/A"'), False),
+        ('{"decision":"lost","id":"0x7f010000","line":"style","name":"style/A"}', False),
+        (f'{{"end":{DIMENSION},"line":"end"}}', False),
         (SAME, False),
     ],
     "bag-line": [

@@ -8,3 +8,4 @@ pub mod NoFloat
 pub mod NoFloatLines
 pub mod Mapped
 pub mod VerdictNoFloat
+pub mod StyleSteps

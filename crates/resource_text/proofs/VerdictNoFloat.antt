@@ -1,5 +1,5 @@
--- No JSON of a verdict, and of the rows of a bag, has a float.
-use Rattle.std.proofs.Common.{◌≡◌, ℕ, ◌==◌, ◌&&◌, false, List, [], ◌∷◌, ◌++◌, codes, Option, Some, None, fold, refl}
+-- No JSON of a verdict, of the rows of a bag, and of styles has a float.
+use Rattle.std.proofs.Common.{◌≡◌, ℕ, ◌==◌, ◌&&◌, Bool, false, List, [], ◌∷◌, ◌++◌, codes, Option, Some, None, fold, refl}
 use Rattle.std.proofs.lemmas.Bool.{or_from}
 use Rattle.std.specs.Fmt.{decimal}
 use Rattle.serde_json.specs.Data.{object, Members, no_members, put}
@@ -27,10 +27,12 @@ use Rattle.answer_text.specs.bag_rows.declared.bag_row.BagRow.{BagRow}
 use Rattle.answer_text.specs.declared.row_key.Keys.{Keys}
 use Rattle.answer_text.specs.RowKeys.{row_key}
 use Rattle.answer_text.specs.ValueContent.{value_content}
+use Rattle.resource_text.specs.AttrJson.{with_setting}
+use Rattle.resource_text.specs.AttrNotation.{setting_words}
 use Rattle.resource_text.specs.BagJson.{with_key_and_value, with_row_at}
 use Rattle.resource_text.specs.ContentJson.{key_data, row_value_data}
 use Rattle.resource_text.specs.DeviceJson.{with_number, device_data}
-use Rattle.resource_text.specs.EndJson.{with_layer}
+use Rattle.resource_text.specs.EndJson.{value_data_at, with_layer}
 use Rattle.resource_text.specs.GoalEndJson.{with_layer_of, slot_end_data, with_goal_end}
 use Rattle.resource_text.specs.GoalNotation.{goal_notation}
 use Rattle.resource_text.specs.LineJson.{line_members}
@@ -38,7 +40,7 @@ use Rattle.resource_text.specs.Naming.{NamingOf}
 use Rattle.resource_text.specs.TextJson.{text_data, number_data, list_data}
 use Rattle.resource_text.specs.VerdictJson.{shown_device_data, shown_data, with_fault, with_claimed, with_goal}
 use Rattle.resource_text.proofs.NoFloat.{NoFloat, either, put-no_float, text-no_float, key-no_float, row_value-no_float}
-use Rattle.resource_text.proofs.NoFloatLines.{layer-no_float, said-no_float, end_at-no_float}
+use Rattle.resource_text.proofs.NoFloatLines.{layer-no_float, said-no_float, end_at-no_float, value_at-no_float}
 
 -- ---- devices
 
@@ -136,3 +138,14 @@ row_at-no_float naming keys place row ms none =
     let value = value_content naming.stack row.layer row.value in
     put-no_float (codes "value") (row_value_data packages key value) (put (codes "key") (key_data packages key) ms) (row_value-no_float packages key value)
     (put-no_float (codes "key") (key_data packages key) ms (key-no_float packages key) none)
+
+-- ---- styles
+
+pub setting-no_float : (naming : NamingOf) (force : Bool) (set own : Option BagRow) (ms : Members) → NoFloat ms → NoFloat (with_setting naming force set own ms)
+unfolding with_setting
+setting-no_float naming force set None ms none = put-no_float (codes "decision") (text_data (codes "not set")) ms (text-no_float (codes "not set")) none
+setting-no_float naming force set (Some row) ms none =
+    let value = value_data_at naming row.layer row.value in
+    let valued = put (codes "value") value ms in
+    put-no_float (codes "decision") (text_data (setting_words force set)) (with_layer naming row.layer valued) (text-no_float (setting_words force set))
+    (layer-no_float naming row.layer valued (put-no_float (codes "value") value ms (value_at-no_float naming row.layer row.value) none))

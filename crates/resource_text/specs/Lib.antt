@@ -29,6 +29,7 @@ pub mod DeviceJson
 pub mod GoalEndJson
 pub mod VerdictJson
 pub mod BagJson
+pub mod AttrJson
 pub mod ChangeBlock
 pub mod Unfolded
 pub use Rattle.cert_maker.specs as cert_maker

@@ -79,8 +79,8 @@ fn style_lines(
     Ok(lines)
 }
 
-// The rows of a style; one that is refused has none.
-fn rows_of_style(
+/// The rows of a style; one that is refused has none.
+pub(crate) fn rows_of_style(
     alloc: Global,
     stack: &Stack<'_>,
     device: &Device,
@@ -99,8 +99,8 @@ fn rows_of_style(
     }
 }
 
-// What an attribute is set by after rows, where this set it before them.
-fn set_after_rows(
+/// What an attribute is set by after rows, where this set it before them.
+pub(crate) fn set_after_rows(
     force: bool,
     attr: ResId,
     before: Option<BagRow>,
@@ -166,8 +166,13 @@ fn style_line(
     Ok(line)
 }
 
+/// Writes what a row of a style does where this set the attribute before it.
 #[tactic(auto, unfolding(crate::specs::AttrNotation::setting_words))]
-fn write_setting<W: Write + Drop>(force: bool, set: &Option<BagRow>, out: &mut W) -> io::Result<()>
+pub(crate) fn write_setting<W: Write + Drop>(
+    force: bool,
+    set: &Option<BagRow>,
+    out: &mut W,
+) -> io::Result<()>
     ensures { Writes W.contents out.old out.new result (setting_words force set.now) }
 {
     match set {

@@ -16,6 +16,7 @@
 //! ```
 #![tactic(auto)]
 
+mod attr_json;
 mod attribute;
 mod bag_json;
 mod block;
@@ -53,6 +54,7 @@ mod verdict_json;
 mod whole_bag;
 
 pub use answer_text::{Form, dump_text, end_text, explain, rows_text};
+pub use attr_json::attr_lines_json;
 pub use attribute::attr_text;
 pub use bag_json::bag_rows_json;
 pub use block::change_block;

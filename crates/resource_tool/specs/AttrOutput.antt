@@ -1,5 +1,5 @@
 -- What the command `attr` prints, and what its words ask.
-use Rattle.std.specs.Prelude.{ℕ, Bool, false, List, [], ◌∷◌, ◌++◌, codes, Option, None, Result, Ok, Err, if◌then◌else◌}
+use Rattle.std.specs.Prelude.{ℕ, Bool, false, List, [], ◌∷◌, ◌++◌, codes, Option, None, Result, Ok, Err}
 use Rattle.contract_words.specs.Faults.{◌>>=◌}
 use Rattle.command_base.specs.json_input.Each.{each}
 use Rattle.command_base.specs.answer_text.config_record.locales.declared.locale_rule.LocaleRule.{LocaleRule}
@@ -12,6 +12,10 @@ use Rattle.command_base.specs.answer_text.bags_themes.Theme.{AttributeValues, un
 use Rattle.command_base.specs.answer_text.bags_themes.Styles.{values_after_styles}
 use Rattle.command_base.specs.answer_text.bags_themes.Attribute.{attribute_of, attributes_followed, slot_of}
 use Rattle.command_base.specs.answer_text.EndText.{end_with_name}
+use Rattle.resource_text.specs.notation.declared.form.Form.TheVariants.{Raw, Android}
+use Rattle.resource_text.specs.declared.line_form.LineForm.{LineForm}
+use Rattle.resource_text.specs.declared.line_form.LineForm.TheVariants.{Text, Json}
+use Rattle.resource_text.specs.AttrJson.{attr_json}
 use Rattle.resource_text.specs.AttrNotation.{attr_notation}
 use Rattle.resource_text.specs.Naming.{NamingOf}
 use Rattle.command_base.specs.answer_text.NameText.{name_beside}
@@ -33,7 +37,7 @@ use Rattle.resource_tool.specs.declared.attr.OpenAttr.{OpenAttr}
 use Rattle.resource_tool.specs.Opened.{OpenedOf, opened_in, opened_by}
 use Rattle.resource_tool.specs.OpenedSeen.{opened_of}
 use Rattle.resource_tool.specs.EndStatus.{status_of_end}
-use Rattle.resource_tool.specs.BagOutput.{no_bag}
+use Rattle.resource_tool.specs.BagOutput.{no_bag, no_bag_json}
 
 -- the line `ID END`; each id is followed by its name, where names are asked for
 unfoldable pub attribute_line : List LayerOf → ℕ → End → Bool → List ℕ
@@ -68,6 +72,20 @@ attr_in_notation asked paths attr styles force =
     told_or_reason (record { stack = asked.stack; paths = paths }) force attr asked.device styles
     (values_after_styles asked.stack force styles unset asked.device)
 
+-- The same as lines of JSON.
+
+abbrev pub json_or_reason : NamingOf → Bool → ℕ → List ℕ → List ResId → Result AttributeValues BagFault → Output
+json_or_reason naming force attr d styles (Ok values) = record {
+  status = status_of_end (attribute_of naming.stack values attr d);
+  text = attr_json naming force attr d styles (slot_of values attributes_followed attr);
+}
+json_or_reason naming force attr d styles (Err fault) = no_bag_json fault
+
+abbrev pub attr_in_json : OpenedOf → List (List ℕ) → ℕ → List ResId → Bool → Output
+attr_in_json asked paths attr styles force =
+    json_or_reason (record { stack = asked.stack; paths = paths }) force attr asked.device styles
+    (values_after_styles asked.stack force styles unset asked.device)
+
 -- What `attr` prints of these layers, a device's text, an attribute and styles, with or without force, without names.
 unfoldable pub attr_output : List LayerBytes → List ℕ → ℕ → List ResId → Bool → Result Output ToolFault
 attr_output layers device_json attr styles force = do
@@ -95,16 +113,16 @@ attr_opened rule layers device attr words = do
   styles ← found_or_stop (ids_named opened.stack sets)
   Ok (record { opened = opened; attr = attr; styles = styles })
 
--- what is printed, in Android's notation or with or without names, where the tables of the layers lie at these paths
-abbrev pub attr_printed : Bool → Bool → Bool → List (List ℕ) → OpenAttrOf → Output
-attr_printed android names force paths asked =
-    if android then attr_in_notation asked.opened paths asked.attr.0 asked.styles force
-    else attr_answer asked.opened asked.attr.0 asked.styles force names
+-- what is printed in this form, with or without names, where the tables of the layers lie at these paths
+abbrev pub attr_printed : LineForm → Bool → Bool → List (List ℕ) → OpenAttrOf → Output
+attr_printed (Text Raw) names force paths asked = attr_answer asked.opened asked.attr.0 asked.styles force names
+attr_printed (Text Android) names force paths asked = attr_in_notation asked.opened paths asked.attr.0 asked.styles force
+attr_printed Json names force paths asked = attr_in_json asked.opened paths asked.attr.0 asked.styles force
 
 -- the answer from the files, if they are read
 abbrev pub PrintsAttrFiles : {W : Type 0} → (W → Option (List ℕ)) → W → W → Attr → Result AskedBytes StopOf → Result Status Stop → Type 0
 PrintsAttrFiles contents old new attr read result =
-    CarriesOut (λ asked done. Prints contents old new done (Ok (attr_printed attr.android attr.names attr.force (paths_asked read) asked)))
+    CarriesOut (λ asked done. Prints contents old new done (Ok (attr_printed attr.form attr.names attr.force (paths_asked read) asked)))
     (read >>= λ files. attr_opened attr.locales files.layers files.device (named_of attr.attr) files.words) result
 
 -- the answer from what the places have

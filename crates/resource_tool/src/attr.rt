@@ -10,11 +10,11 @@ ghost use Rattle.command_base.specs.Stop.{GivesOrStops};
 ghost use Rattle.command_base.specs.declared.fault.ToolFault.TheVariants.{Write};
 ghost use Rattle.command_base.specs.names.Named.{named_of};
 ghost use Rattle.resource_tool.specs.OpenedSeen.{opened_of};
-ghost use Rattle.resource_tool.specs.AttrOutput.{attribute_line, attr_answer, attr_in_notation, attr_output, attr_seen, attr_opened, PrintsAttr, PrintsAttrFiles};
+ghost use Rattle.resource_tool.specs.AttrOutput.{attribute_line, attr_answer, attr_in_json, attr_in_notation, attr_output, attr_printed, attr_seen, attr_opened, PrintsAttr, PrintsAttrFiles};
 ghost use Rattle.command_base.specs.CarriesOut.{IsKept};
 
 use crate::end_status::status_of_end;
-use crate::no_bag::print_no_bag;
+use crate::no_bag::{print_no_bag, print_no_bag_json};
 use crate::opened::Opened;
 use crate::text::{ended, print_text};
 use answer_text::{NamesBeside, write_end_with_name, write_id};
@@ -23,7 +23,7 @@ use command_base::{
     Stop, Theme, ToolFault, asked_sets, status_or_stop,
 };
 use names::{id_named, ids_named};
-use resource_text::{Naming, attr_text};
+use resource_text::{Form, LineForm, Naming, attr_lines_json, attr_text};
 use std::alloc::Global;
 use std::io::{self, Write};
 
@@ -38,8 +38,8 @@ pub struct Attr<'a> {
     pub locales: LocaleRule,
     /// Whether the name of each id is printed beside it.
     pub names: bool,
-    /// Whether it is printed in Android's notation, where each id is told by its name.
-    pub android: bool,
+    /// How it is printed; in any form but the raw one by names.
+    pub form: LineForm,
     /// Whether the styles are applied with force.
     pub force: bool,
     /// The attribute, by its id or by its name.
@@ -80,21 +80,30 @@ impl<'a> Attr<'a> {
             self.attr,
             &files.words,
         )?;
-        status_or_stop(if self.android {
-            let paths = files.layers.paths();
-            asked
-                .opened
-                .attr_in_notation(alloc, paths, asked.attr, &asked.styles, self.force, out)
-        } else {
-            asked.opened.attr(
-                alloc,
-                asked.attr,
-                &asked.styles,
-                self.force,
-                self.names,
-                out,
-            )
-        })
+        status_or_stop(self.print(alloc, files.layers.paths(), &asked, out))
+    }
+
+    // Prints it in the form that is asked for, where the tables of the layers lie at these paths.
+    fn print<W: Write + Drop>(
+        &self,
+        alloc: Global,
+        paths: &[String],
+        asked: &OpenAttr<'_>,
+        out: &mut W,
+    ) -> Result<Status, ToolFault>
+        ensures { Prints W.contents out.old out.new result
+            (Ok (attr_printed self.now.form self.now.names self.now.force (map string_bytes paths.now) (attr_seen asked.now))) }
+    {
+        let (opened, attr, styles) = (&asked.opened, asked.attr, &asked.styles);
+        match self.form {
+            LineForm::Text(Form::Raw) => {
+                opened.attr(alloc, attr, styles, self.force, self.names, out)
+            }
+            LineForm::Text(Form::Android) => {
+                opened.attr_in_notation(alloc, paths, attr, styles, self.force, out)
+            }
+            LineForm::Json => opened.attr_in_json(alloc, paths, attr, styles, self.force, out),
+        }
     }
 }
 
@@ -200,6 +209,32 @@ impl Opened<'_> {
                 print_text(status, &text, out)
             }
             Err(fault) => print_no_bag(fault, out),
+        }
+    }
+
+    /// The same as lines of JSON.
+    pub fn attr_in_json<W: Write + Drop>(
+        &self,
+        alloc: Global,
+        paths: &[String],
+        attr: ResId,
+        styles: &[ResId],
+        force: bool,
+        out: &mut W,
+    ) -> Result<Status, ToolFault>
+        ensures { Prints W.contents out.old out.new result (Ok (attr_in_json (opened_of self.now) (map string_bytes paths.now) attr.0 styles.now force)) }
+    {
+        match Theme::of_styles(alloc, &self.stack, styles, force, &self.device) {
+            Ok(theme) => {
+                let slot = theme.slot(attr);
+                let status = status_of_end(theme.attribute(&self.stack, attr, &self.device));
+                drop(theme);
+                let naming = Naming::of(alloc, &self.stack, paths)?;
+                let lines = attr_lines_json(&naming, &self.device, force, attr, styles, slot)?;
+                drop(naming);
+                print_text(status, &lines, out)
+            }
+            Err(fault) => print_no_bag_json(fault, out),
         }
     }
 }

@@ -281,7 +281,7 @@ module _ {W V E : Type 0} (is_terminal : Bool) (c : W → Option (List ℕ)) (d 
   answers-over from to carry carry_any carry_once carry_first carry_told carry_both places (asks.Bag it) p =
       carry _ (λ (asked : OpenIdOf). Ok (bag_printed it (paths_read (device_files places it.layers.now it.device.now)) asked)) _ p
   answers-over from to carry carry_any carry_once carry_first carry_told carry_both places (asks.Attr it) p =
-      carry _ (λ (asked : OpenAttrOf). Ok (attr_printed it.android it.names it.force (paths_asked (asked_files places it.layers.now it.device.now (texts_of it.styles))) asked)) _ p
+      carry _ (λ (asked : OpenAttrOf). Ok (attr_printed it.form it.names it.force (paths_asked (asked_files places it.layers.now it.device.now (texts_of it.styles))) asked)) _ p
   answers-over from to carry carry_any carry_once carry_first carry_told carry_both places (asks.Make it) p =
       makes-over from to carry_once carry_first it.omit it.names it.max_nodes _ p
   answers-over from to carry carry_any carry_once carry_first carry_told carry_both places (asks.Check it) p =

@@ -65,7 +65,7 @@ commands =
     ∷ command (codes "explain") (locales ∷ names ∷ android ∷ flag (codes "all") ∷ flag (codes "json") ∷ layers ∷ device ∷ one_word (codes "ID") ∷ [])
     ∷ command (codes "bag") (locales ∷ names ∷ android ∷ flag (codes "json") ∷ layers ∷ device ∷ one_word (codes "ID") ∷ [])
     ∷ command (codes "attr")
-    (locales ∷ flag (codes "keep") ∷ names ∷ android ∷ layers ∷ device ∷ one_word (codes "ATTR") ∷ several_words (codes "STYLE") ∷ [])
+    (locales ∷ flag (codes "keep") ∷ names ∷ android ∷ flag (codes "json") ∷ layers ∷ device ∷ one_word (codes "ATTR") ∷ several_words (codes "STYLE") ∷ [])
     ∷ command (codes "make")
     (locales ∷ nodes (codes "max-nodes") ∷ flag (codes "omit") ∷ names ∷ layers ∷ one_word (codes "BOX") ∷ goals ∷ [])
     ∷ command (codes "check")
@@ -188,7 +188,7 @@ IsBagOf rule rows asked _ = ⊥
 abbrev pub IsAttrOf : LocaleRule → List Row → AttrAsked → Request → Type 0
 IsAttrOf rule rows asked (requests.Attr it) =
     (it.locales ≡ rule) × (it.layers.now ≡ word_at (codes "LAYERS") rows) × (it.device.now ≡ word_at (codes "DEVICE") rows)
-    × IsGiven (codes "names") rows it.names × IsGiven (codes "android") rows it.android × IsGiven (codes "keep") rows (not it.force)
+    × IsGiven (codes "names") rows it.names × IsAnswerFormGiven rows it.form × IsGiven (codes "keep") rows (not it.force)
     × (asked ≡ record { attr = named_of it.attr; styles = texts_of it.styles })
 IsAttrOf rule rows asked _ = ⊥
 

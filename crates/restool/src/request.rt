@@ -135,7 +135,7 @@ pub(crate) const USAGES: &[Usage] = &[
         name: ATTR,
         about: "Prints an attribute's value in the theme that those styles build",
         arguments: &[
-            LOCALES, KEEP, NAMES, NOTATION, LAYERS, DEVICE, ATTRIBUTE, STYLES,
+            LOCALES, KEEP, NAMES, NOTATION, JSON, LAYERS, DEVICE, ATTRIBUTE, STYLES,
         ],
     },
     Usage {
@@ -355,7 +355,7 @@ fn attr_of<'a>(alloc: Global, given: &ArgMatches<'a>) -> Result<Request<'a>, Arg
         device: given_word(given, &DEVICE),
         locales,
         names: given_flag(given, &NAMES),
-        android: given_flag(given, &NOTATION),
+        form: given_answer_form(given),
         attr: resource,
         styles,
         force: !given_flag(given, &KEEP),

@@ -15,7 +15,7 @@ returns-in_err-files-clause-answers g c =
     let out = c.args.out.now in
     let p = err_from_is_err_and c.from_residual.result c.from_residual.ensures.1 in
     rw (p.1, p.2) (
-    stops_unread (λ read (asked : OpenAttrOf) done. Prints g.W.Write.contents out out done (Ok (attr_printed attr.android attr.names attr.force (paths_asked read) asked)))
+    stops_unread (λ read (asked : OpenAttrOf) done. Prints g.W.Write.contents out out done (Ok (attr_printed attr.form attr.names attr.force (paths_asked read) asked)))
     (λ files. attr_opened attr.locales files.layers files.device (named_of attr.attr) files.words)
     (g.I.Inputs.places c.args.inputs.now) (λ places. asked_files places attr.layers.now attr.device.now (map (λ word. word.now) attr.styles.items))
     c.in_err-files.field-0.0 (rw c.deref.ensures.value at c.in_err-files.ensures)

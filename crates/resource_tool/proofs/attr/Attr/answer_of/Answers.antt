@@ -9,16 +9,11 @@ use Rattle.resource_tool.specs.AttrOutput.{OpenAttrOf, attr_printed, attr_seen}
 use Rattle.resource_tool.proofs.Answering.{carried_out, kept_by_done}
 use Rattle.resource_tool.proofs.attr.Attr.answer_of.Given.{Over}
 use Rattle.resource_tool.proofs.attr.Attr.answer_of.Goals as goal
-use Rattle.resource_tool.proofs.attr.Attr.answer_of.Goals.{then-self, else-self}
 
--- either form of the answer
-printed : (g : Over) (c : goal.After-drop-asked-2 g) → Prints g.W.Write.contents c.args.out.now c.if-self.out c.if-self.status_or_stop
-    (Ok (attr_printed c.args.self.now.android c.args.self.now.names c.args.self.now.force (paths_asked (Ok (asked_held c.args.files.now))) (attr_seen c.in_ok-asked.asked)))
-printed g c =
-    elim c.if-self.branch [
-      | then-self w ↦ rw (w.out-is, w.status_or_stop-is, w.if-self.true) (rw (w.paths-paths.ensures, w.deref-then-self.ensures.value) at w.attr_in_notation.ensures)
-      | else-self w ↦ rw (w.out-is, w.status_or_stop-is, w.if-self.false) (rw w.deref-else-self.ensures.value at w.attr.ensures)
-    ]
+-- the answer in its form
+printed : (g : Over) (c : goal.After-drop-asked-2 g) → Prints g.W.Write.contents c.args.out.now c.print.new.out c.print.result
+    (Ok (attr_printed c.args.self.now.form c.args.self.now.names c.args.self.now.force (paths_asked (Ok (asked_held c.args.files.now))) (attr_seen c.in_ok-asked.asked)))
+printed g c = rw c.paths.ensures at c.print.ensures
 
 pub returns-clause-answers : goal.returns-clause-answers
 returns-clause-answers g c =
@@ -26,12 +21,12 @@ returns-clause-answers g c =
     let paths : List (List ℕ) = paths_asked (Ok (asked_held c.args.files.now)) in
     let meant = rw c.deref.ensures.value at c.in_ok-asked.ensures in
     carried_out
-    (λ (asked : OpenAttrOf) (done : Result Status ToolFault). Prints g.W.Write.contents c.args.out.now c.if-self.out done (Ok (attr_printed attr.android attr.names attr.force paths asked)))
-    _ (attr_seen c.in_ok-asked.asked) c.if-self.status_or_stop c.status_or_stop.result meant (printed g c) c.status_or_stop.ensures
+    (λ (asked : OpenAttrOf) (done : Result Status ToolFault). Prints g.W.Write.contents c.args.out.now c.print.new.out done (Ok (attr_printed attr.form attr.names attr.force paths asked)))
+    _ (attr_seen c.in_ok-asked.asked) c.print.result c.status_or_stop.result meant (printed g c) c.status_or_stop.ensures
 
 pub returns-clause-unwritten : goal.returns-clause-unwritten
 returns-clause-unwritten g c =
-    kept_by_done g.W.Write.contents c.args.out.now c.if-self.out _ c.if-self.status_or_stop c.status_or_stop.result (printed g c) c.status_or_stop.ensures
+    kept_by_done g.W.Write.contents c.args.out.now c.print.new.out _ c.print.result c.status_or_stop.result (printed g c) c.status_or_stop.ensures
 
 pub returns-in_err-asked-clause-answers : goal.returns-in_err-asked-clause-answers
 returns-in_err-asked-clause-answers g c =
