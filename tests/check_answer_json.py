@@ -3,10 +3,10 @@
 
     check_answer_json.py [--locales android] PROGRAM CASES [JOBS [FIRST]]
 
-The cases are those of check_certificates.py: of each its certificate is checked, with --all and without, and some ids are asked for
-their bags at a device of the box, and its attributes for where they end. Each line has to be JSON as it is written compactly, with its members in order, and valid by its
-schema. It has to say what the lines of text say, those without --android by kinds, words, ids and devices, those with it by names,
-paths and XML. The status and what stands on standard error are the same.
+The cases are those of check_certificates.py: of each its certificate is checked, with --all and without, and some ids are asked
+for their bags at a device of the box, and its attributes for where they end. Each line has to be JSON as it is written compactly,
+with its members in order, and valid by its schema. It has to say what the lines of text say, those without --android by kinds,
+words, ids and devices, those with it by names, paths and XML. The status and what stands on standard error are the same.
 
 The cases are numbered from FIRST on, which is 0 if it is not given. The last line counts what was compared."""
 import json

@@ -3,8 +3,8 @@
 
     check_schemas.py PROGRAM [SCHEMA..]
 
-for each schema, or for those that are named: layers, id-map, device, box, certificate, diff-line, values-line, query-line, explain-line, check-line, bag-line, attr-line. Texts that a schema
-judges as restool does stand in ALIKE with the fault that restool tells, none where the text is accepted. In BEYOND are texts
+for each schema, or for those that are named: layers, id-map, device, box, certificate, diff-line, values-line, query-line,
+explain-line, check-line, bag-line, attr-line. Texts that a schema judges as restool does stand in ALIKE with the fault that restool tells, none where the text is accepted. In BEYOND are texts
 that restool refuses for what a schema can't say, and in AS_PHONE those of them that it reads with `--locales android`. In LINES are
 the lines, and what is none; what restool prints of random cases check_json.py looks at. The last line is the number of texts."""
 import json
