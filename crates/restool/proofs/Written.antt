@@ -275,7 +275,7 @@ module _ {W V E : Type 0} (is_terminal : Bool) (c : W → Option (List ℕ)) (d 
   answers-over from to carry carry_any carry_once carry_first carry_told carry_both places (asks.Show it) p =
       carry _ (λ (files : ShowBytes). shown_output it.form it.pictured files) _ p
   answers-over from to carry carry_any carry_once carry_first carry_told carry_both places (asks.Query it) p =
-      carry _ (λ (asked : OpenQueryOf). Ok (query_printed it.android it.names (paths_asked (asked_files places it.layers.now it.device.now (texts_of it.words))) asked)) _ p
+      carry _ (λ (asked : OpenQueryOf). Ok (query_printed it.form it.names (paths_asked (asked_files places it.layers.now it.device.now (texts_of it.words))) asked)) _ p
   answers-over from to carry carry_any carry_once carry_first carry_told carry_both places (asks.Explain it) p =
       carry _ (λ (asked : OpenIdOf). Ok (explain_printed it (paths_read (device_files places it.layers.now it.device.now)) asked)) _ p
   answers-over from to carry carry_any carry_once carry_first carry_told carry_both places (asks.Bag it) p =

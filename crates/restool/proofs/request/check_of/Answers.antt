@@ -8,4 +8,4 @@ returns-in_err-locales c =
 
 pub returns : goal.returns
 returns c =
-    let p = c.in_ok-locales.ensures in (p.0, p.1, (p.2.0, p.2.1, (p.2.2.0, c.given_word.ensures, c.given_word-2.ensures, c.given_word-3.ensures, c.given_flag.ensures, c.given_flag-2.ensures, c.given_flag-3.ensures, p.2.2.1)))
+    let p = c.in_ok-locales.ensures in (p.0, p.1, (p.2.0, p.2.1, (p.2.2.0, c.given_word.ensures, c.given_word-2.ensures, c.given_word-3.ensures, c.given_flag.ensures, c.given_answer_form.ensures, c.given_flag-2.ensures, p.2.2.1)))
