@@ -142,7 +142,7 @@ WHOLE = {(): raw_attribute, ("--android",): noted_attribute}
 
 
 def all_texts(option, lines):
-    if lines[0]["line"] == "attribute":
+    if lines and lines[0]["line"] == "attribute":
         return list(WHOLE[option](lines))
     return [text for line in lines for text in line_texts(FORMS[option], line)]
 

@@ -58,7 +58,7 @@ class Raw:
         return [VALUE.sub(lambda parts: parts[1] + as_read(parts[2]), line) for line in printed]
 
 
-STRING = re.compile("^(value layer [0-9]+ string) .*")
+STRING = re.compile("^(value layer [0-9]+ string) .*", re.DOTALL)
 """What an explanation ends at, which has the index of a string alone."""
 VALUE = re.compile(r"^((?:0x[0-9a-f]{8}|end) value layer [0-9]+ )(.*)$")
 
