@@ -1,4 +1,4 @@
--- How contracts see references that go astray, and the search for them. (Cited by contracts of this crate alone.)
+-- How contracts see references that go astray, and the search for them.
 use Rattle.command_base.specs.overlay_map.IdMap.{MapOf, pairs_of}
 use Rattle.command_base.specs.answer_text.overlay_map.Table.{TableOf}
 use Rattle.command_base.specs.answer_text.type_chunks.Row.{row_of}

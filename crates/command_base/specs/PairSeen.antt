@@ -1,4 +1,4 @@
--- How contracts see a pair of ids. (Cited by contracts of this crate alone.)
+-- How contracts see a pair of ids.
 use Rattle.std.specs.Prelude.{◌≡◌, ℕ, Some}
 use Rattle.command_base.specs.overlay_map.IdMap.{IdPair}
 use Rattle.command_base.specs.answer_text.res_value.ResId.{id_of, id_text}

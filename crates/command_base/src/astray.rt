@@ -15,7 +15,7 @@ use std::alloc::{AllocError, Global};
 
 /// A row of an overlay that refers to an id of the overlay which the map does not keep.
 #[derive(Clone, Copy)]
-pub(crate) struct Astray<'a> {
+pub struct Astray<'a> {
     pub from: Row<'a>,
     /// The first row of that id.
     pub to: Row<'a>,

@@ -16,7 +16,7 @@ use std::collections::BTreeMap;
 
 /// The first row of each id of a table.
 #[derive(Drop)]
-pub(crate) struct FirstRows<'t, 'a> {
+pub struct FirstRows<'t, 'a> {
     pub table: &'t Table<'a>,
     /// By the number of the id.
     rows: BTreeMap<u32, Row<'a>>,

@@ -69,6 +69,7 @@ pub use answer_text::{
     Table, TableFault, Theme, Value, kind,
 };
 pub use apk_member::{ApkFault, TableFile};
+pub use astray::Astray;
 pub use cert_tree::{
     BoxFault, Cert, CertFault, CertGoal, Choice, ConfigBox, Coord, Goal, Locale, LocaleRule, Node,
     Progress, Test, Values,
@@ -78,6 +79,7 @@ pub use device_text::DeviceText;
 pub use exit_status::ExitStatus;
 pub use fault::{ToolFault, fault_text};
 pub use file_words::{asked_goals, asked_sets, asked_words};
+pub use first_rows::FirstRows;
 pub use input::{InputFault, read_input};
 pub use inputs::{Inputs, ProcessInputs, file_bytes, layer_table_file, table_file};
 pub use layer_files::LayerFiles;
@@ -86,12 +88,14 @@ pub use layer_parts::LayerParts;
 pub use layers_fault::LayersFault;
 pub use left_out::{has_overlays, left_of, say_left};
 pub use list_word::{ListedLayer, is_list_word, layers_in_word};
-pub use made_map::MadeMap;
+pub use made_map::{LeftRows, MadeMap};
 pub use names::{GoalFault, Name, Named, NamedGoal, NamedSet, NamedStack, SharedNames};
 pub use one_line::write_in_one_line;
+pub use pairs::made_pairs;
 pub use place::{Place, STANDARD_INPUT};
 pub use set_aside::rows_set_aside;
 pub use side::Side;
 pub use stack::{open_side, open_stack, open_table};
 pub use status::Status;
 pub use stop::{Stop, status_or_stop};
+pub use table_fault::write_table_fault;

@@ -7,7 +7,7 @@ ghost use Rattle.command_base.specs.answer_text.type_chunks.Row.{row_of};
 ghost use Rattle.command_base.specs.overlay_map.IdMap.{pairs_of};
 ghost use Rattle.command_base.specs.AstraySeen.{astray_of};
 ghost use Rattle.command_base.specs.declared.fault.ToolFault.TheVariants.{OutOfMemory};
-ghost use Rattle.command_base.specs.MadeMap.{made_map};
+ghost use Rattle.command_base.specs.MadeMap.{astray, made_map, unmapped};
 ghost use Rattle.command_base.specs.MadeOver.{made_of, made_over};
 ghost use Rattle.command_base.specs.MapText.{ReadsBack, is_whole, left_lines, lines_of_left, lines_with, map_text};
 ghost use Rattle.command_base.specs.PairSeen.{IdsReadBack};
@@ -77,10 +77,12 @@ impl MadeMap {
     {
         let pairs = made_pairs(alloc, target, overlay)?;
         let json = json_text(alloc, &pairs)?;
-        let left = left_of(alloc, before, overlay, &pairs)?;
+        let first = FirstRows::new(alloc, overlay)?;
+        let left = LeftRows::of(alloc, &first, &pairs)?;
+        let lines = left_text(alloc, before, overlay, &left.unmapped, &left.astray)?;
         Ok(MadeMap {
             json,
-            left: left.lines,
+            left: lines,
             is_whole: left.is_none,
         })
     }
@@ -88,41 +90,35 @@ impl MadeMap {
 
 /// What a map leaves out of its overlay.
 #[derive(Drop)]
-struct Left {
-    lines: Vec<u8>,
-    is_none: bool,
+pub struct LeftRows<'a> {
+    /// The first row of each id that stands for no target, in the order of the ids.
+    pub unmapped: Vec<Row<'a>>,
+    /// The references that go astray, in the order of the file.
+    pub astray: Vec<Astray<'a>>,
+    /// Whether there are neither.
+    pub is_none: bool,
 }
 
-fn left_of(
-    alloc: Global,
-    before: &[u8],
-    overlay: &Table<'_>,
-    pairs: &[(ResId, ResId)],
-) -> Result<Left, AllocError>
-    ensures { IfOk result (λ left. (left.lines.items ≡ lines_with before.now overlay.now (pairs_of pairs.now))
-        × (left.is_none ≡ is_whole overlay.now (pairs_of pairs.now))) }
-{
-    let first = FirstRows::new(alloc, overlay)?;
-    let mapped = MappedIds::new(alloc, pairs)?;
-    left_among(alloc, before, &first, &mapped)
-}
-
-fn left_among(
-    alloc: Global,
-    before: &[u8],
-    first: &FirstRows<'_, '_>,
-    mapped: &MappedIds<'_>,
-) -> Result<Left, AllocError>
-    ensures { IfOk result (λ left. (left.lines.items ≡ lines_with before.now first.now.table.now (pairs_of mapped.now.pairs.now))
-        × (left.is_none ≡ is_whole first.now.table.now (pairs_of mapped.now.pairs.now))) }
-{
-    let unmapped = unmapped_rows(alloc, first, mapped)?;
-    let astray = astray_references(alloc, first, mapped)?;
-    let lines = left_text(alloc, before, first.table, &unmapped, &astray)?;
-    Ok(Left {
-        lines,
-        is_none: unmapped.is_empty() && astray.is_empty(),
-    })
+impl<'a> LeftRows<'a> {
+    /// What these pairs leave out of an overlay that has these first rows.
+    pub fn of(
+        alloc: Global,
+        first: &FirstRows<'_, 'a>,
+        pairs: &[(ResId, ResId)],
+    ) -> Result<LeftRows<'a>, AllocError>
+        ensures { IfOk result (λ left. (map row_of left.unmapped.items ≡ unmapped first.now.table.now (pairs_of pairs.now))
+            × (map astray_of left.astray.items ≡ astray first.now.table.now (pairs_of pairs.now))
+            × (left.is_none ≡ is_whole first.now.table.now (pairs_of pairs.now))) }
+    {
+        let mapped = MappedIds::new(alloc, pairs)?;
+        let unmapped = unmapped_rows(alloc, first, &mapped)?;
+        let astray = astray_references(alloc, first, &mapped)?;
+        Ok(LeftRows {
+            is_none: unmapped.is_empty() && astray.is_empty(),
+            unmapped,
+            astray,
+        })
+    }
 }
 
 fn json_text(alloc: Global, pairs: &[(ResId, ResId)]) -> Result<Vec<u8>, AllocError>

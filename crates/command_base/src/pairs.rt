@@ -19,7 +19,7 @@ use std::slice;
 
 /// The pairs of the id map of an overlay, in the order of the targets.
 #[tactic(auto, unfolding(crate::specs::MadeMap::made_map))]
-pub(crate) fn made_pairs(
+pub fn made_pairs(
     alloc: Global,
     target: &Table<'_>,
     overlay: &Table<'_>,

@@ -10,7 +10,7 @@ use std::io::{self, Write};
 
 /// Writes the names of a table's fault from outside in, and its place.
 #[tactic(auto, unfolding(crate::specs::TableFaultText::table_fault_text))]
-pub(crate) fn write_table_fault<W: Write + Drop>(fault: TableFault, out: &mut W) -> io::Result<()>
+pub fn write_table_fault<W: Write + Drop>(fault: TableFault, out: &mut W) -> io::Result<()>
     ensures { Writes W.contents out.old out.new result (table_fault_text fault) }
 {
     let (names, place) = names_and_place(fault);

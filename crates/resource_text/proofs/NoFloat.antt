@@ -1,12 +1,12 @@
 -- No JSON of this crate has a float.
-use Rattle.std.proofs.Common.{◌≡◌, ℕ, Bool, true, false, if◌then◌else◌, List, [], ◌∷◌, map, fold, refl}
+use Rattle.std.proofs.Common.{◌≡◌, ℕ, Bool, true, false, if◌then◌else◌, List, [], ◌∷◌, Option, Some, None, map, fold, refl}
 use Rattle.std.proofs.lemmas.Bool.{or_from, or_parts}
 use Rattle.std.specs.Prelude.{codes}
 use Rattle.std.specs.Cmp.Lexicographic.{slice_cmp}
 use Rattle.std.specs.Ordering.{nat_cmp, match_ordering}
 use Rattle.std.specs.declared.cmp.Ordering.{Ordering}
 use Rattle.std.specs.declared.cmp.Ordering.TheVariants as order
-use Rattle.serde_json.specs.Data.{Data, string, Members, no_members, member, put}
+use Rattle.serde_json.specs.Data.{Data, object, string, Members, no_members, member, put}
 use Rattle.serde_json.specs.View.{items_of}
 use Rattle.serde_json.specs.Written.{has_float, items_have_float, members_have_float}
 use Rattle.config_box.specs.config_record.declared.coord.Coord.{Coord}
@@ -17,13 +17,14 @@ use Rattle.notation.specs.Narrower.{is_narrower}
 use Rattle.names.specs.Packages.{PackageNameOf}
 use Rattle.answer_text.specs.Content.{ValueContentOf, StringOf, GarbledOf, BrokenOf, ReferenceOf, AttributeOf, OtherOf, RowKeyOf, PlaceOf, QuantityOf, CalledOf, RowContentOf, ContentOf, ValueOf, BagOf, AbsentOf, TooManyReferencesOf, TooManyParentsOf}
 use Rattle.answer_text.specs.InForm.{value_in, row_value_in}
+use Rattle.res_value.specs.declared.value.Value.{Value}
 use Rattle.answer_text.specs.ValueText.{broken_text}
 use Rattle.notation.specs.declared.form.Form.TheVariants.{Android}
 use Rattle.resource_text.specs.TextJson.{text_data, number_data, list_data}
-use Rattle.resource_text.specs.ContentJson.{label_data, with_value, value_data, key_data, row_value_data, row_data, with_content, content_data}
+use Rattle.resource_text.specs.ContentJson.{label_data, with_kind_and_word, with_stored, with_value, value_data, key_data, with_key, with_row_value, with_row, row_data, with_content, content_data}
 use Rattle.resource_text.specs.DevicesJson.{locale_data, set_data, with_narrower, devices_data}
 use Rattle.stack_diff.specs.Difference.{RowDifferenceOf, RowRemoved, RowAdded, RowChanged, DifferenceOf, RowsDiffer, ContentsDiffer, FromNothing}
-use Rattle.resource_text.specs.ChangeJson.{device_words, with_key, with_row_value, with_row_change, row_change_data, with_devices, with_difference, change_data}
+use Rattle.resource_text.specs.ChangeJson.{device_words, with_row_change, row_change_data, with_devices, with_difference, change_data}
 
 -- ---- lists
 
@@ -54,6 +55,17 @@ pub text-no_float : (text : List ℕ) → has_float (text_data text) ≡ false
 unfolding text_data
 text-no_float text = refl
 
+kind_and_word-no_float : (value : Value) (ms : Members) → NoFloat ms → NoFloat (with_kind_and_word value ms)
+kind_and_word-no_float value ms none =
+    put-no_float (codes "word") (number_data value.word) (put (codes "kind") (number_data value.kind) ms) refl
+    (put-no_float (codes "kind") (number_data value.kind) ms refl none)
+
+stored-no_float : (stored : Option Value) (ms : Members) → NoFloat ms → NoFloat (with_stored stored ms)
+unfolding with_stored
+stored-no_float (Some value) ms none =
+    put-no_float (codes "stored") (object (with_kind_and_word value no_members)) ms (kind_and_word-no_float value no_members refl) none
+stored-no_float None ms none = none
+
 with_value-no_float : (packages : List PackageNameOf) (value : ValueContentOf) (ms : Members) → NoFloat ms → NoFloat (with_value packages value ms)
 unfolding with_value text_data
 with_value-no_float packages (StringOf text) ms none = put-no_float (codes "string") (string text) ms refl none
@@ -61,34 +73,41 @@ with_value-no_float packages (GarbledOf text) ms none = put-no_float (codes "gar
 with_value-no_float packages (BrokenOf broken) ms none = put-no_float (codes "broken") (text_data (broken_text broken)) ms refl none
 with_value-no_float packages (ReferenceOf label) ms none = put-no_float (codes "reference") (label_data packages label) ms refl none
 with_value-no_float packages (AttributeOf label) ms none = put-no_float (codes "attribute") (label_data packages label) ms refl none
-with_value-no_float packages (OtherOf value) ms none =
-    let kind = put-no_float (codes "kind") (number_data value.kind) ms refl none in
-    put-no_float (codes "word") (number_data value.word) (put (codes "kind") (number_data value.kind) ms) refl kind
+with_value-no_float packages (OtherOf value) ms none = kind_and_word-no_float value ms none
 
-pub value-no_float : (packages : List PackageNameOf) (value : ValueContentOf) (xml : List ℕ) → has_float (value_data packages value xml) ≡ false
+pub value-no_float : (packages : List PackageNameOf) (stored : Option Value) (value : ValueContentOf) (xml : List ℕ) → has_float (value_data packages stored value xml) ≡ false
 unfolding value_data text_data
-value-no_float packages value xml = with_value-no_float packages value (put (codes "xml") (text_data xml) no_members) refl
+value-no_float packages stored value xml =
+    let told = put (codes "xml") (text_data xml) no_members in with_value-no_float packages value (with_stored stored told) (stored-no_float stored told refl)
 
-pub key-no_float : (packages : List PackageNameOf) (key : RowKeyOf) → has_float (key_data packages key) ≡ false
+key-no_float : (packages : List PackageNameOf) (key : RowKeyOf) → has_float (key_data packages key) ≡ false
 unfolding key_data text_data
 key-no_float packages (PlaceOf place) = refl
 key-no_float packages (QuantityOf quantity) = refl
 key-no_float packages (CalledOf label) = refl
 
-pub row_value-no_float : (packages : List PackageNameOf) (key : RowKeyOf) (value : ValueContentOf) → has_float (row_value_data packages key value) ≡ false
-row_value-no_float packages key value = value-no_float packages value (row_value_in Android packages key value)
+with_key-no_float : (packages : List PackageNameOf) (key : RowKeyOf) (ms : Members) → NoFloat ms → NoFloat (with_key packages key ms)
+with_key-no_float packages key ms none = put-no_float (codes "key") (key_data packages key) ms (key-no_float packages key) none
 
-pub row-no_float : (packages : List PackageNameOf) (row : RowContentOf) → has_float (row_data packages row) ≡ false
-unfolding row_data
-row-no_float packages row =
-    let key = put-no_float (codes "key") (key_data packages row.key) no_members (key-no_float packages row.key) refl in
-    put-no_float (codes "value") (row_value_data packages row.key row.value) (put (codes "key") (key_data packages row.key) no_members)
-    (row_value-no_float packages row.key row.value) key
+with_row_value-no_float : (packages : List PackageNameOf) (name : List ℕ) (stored : Option Value) (key : RowKeyOf) (value : ValueContentOf) (ms : Members)
+    → NoFloat ms → NoFloat (with_row_value packages name stored key value ms)
+with_row_value-no_float packages name stored key value ms none =
+    let xml = row_value_in Android packages key value in
+    put-no_float name (value_data packages stored value xml) ms (value-no_float packages stored value xml) none
+
+pub with_row-no_float : (packages : List PackageNameOf) (stored : Option Value) (key : RowKeyOf) (value : ValueContentOf) (ms : Members)
+    → NoFloat ms → NoFloat (with_row packages stored key value ms)
+unfolding with_row
+with_row-no_float packages stored key value ms none =
+    with_row_value-no_float packages (codes "value") stored key value (with_key packages key ms) (with_key-no_float packages key ms none)
+
+row-no_float : (packages : List PackageNameOf) (row : RowContentOf) → has_float (row_data packages row) ≡ false
+row-no_float packages row = with_row-no_float packages None row.key row.value no_members refl
 
 pub with_content-no_float : (packages : List PackageNameOf) (content : ContentOf) (ms : Members) → NoFloat ms → NoFloat (with_content packages content ms)
 unfolding with_content text_data
 with_content-no_float packages (ValueOf value) ms none =
-    let xml = value_in Android packages value in put-no_float (codes "value") (value_data packages value xml) ms (value-no_float packages value xml) none
+    let xml = value_in Android packages value in put-no_float (codes "value") (value_data packages None value xml) ms (value-no_float packages None value xml) none
 with_content-no_float packages (BagOf rows) ms none =
     put-no_float (codes "bag") (list_data (map (row_data packages) rows)) ms (items-no_float (row_data packages) (row-no_float packages) rows) none
 with_content-no_float packages (AbsentOf label) ms none = put-no_float (codes "absent") (label_data packages label) ms refl none
@@ -124,21 +143,14 @@ devices-no_float whole part = narrower-no_float whole part no_members all_coords
 
 -- ---- changes
 
-with_key-no_float : (packages : List PackageNameOf) (key : RowKeyOf) (ms : Members) → NoFloat ms → NoFloat (with_key packages key ms)
-with_key-no_float packages key ms none = put-no_float (codes "key") (key_data packages key) ms (key-no_float packages key) none
-
-with_row_value-no_float : (packages : List PackageNameOf) (name : List ℕ) (key : RowKeyOf) (value : ValueContentOf) (ms : Members)
-    → NoFloat ms → NoFloat (with_row_value packages name key value ms)
-with_row_value-no_float packages name key value ms none = put-no_float name (row_value_data packages key value) ms (row_value-no_float packages key value) none
-
 row_change-no_float : (packages : List PackageNameOf) (row : RowDifferenceOf) → has_float (row_change_data packages row) ≡ false
 unfolding with_row_change
-row_change-no_float packages (RowRemoved row) = with_row_value-no_float packages (codes "before") row.key row.value (with_key packages row.key no_members) (with_key-no_float packages row.key no_members refl)
-row_change-no_float packages (RowAdded row) = with_row_value-no_float packages (codes "after") row.key row.value (with_key packages row.key no_members) (with_key-no_float packages row.key no_members refl)
+row_change-no_float packages (RowRemoved row) = with_row_value-no_float packages (codes "before") None row.key row.value (with_key packages row.key no_members) (with_key-no_float packages row.key no_members refl)
+row_change-no_float packages (RowAdded row) = with_row_value-no_float packages (codes "after") None row.key row.value (with_key packages row.key no_members) (with_key-no_float packages row.key no_members refl)
 row_change-no_float packages (RowChanged key before after) =
     let keyed = with_key packages key no_members in
-    let none = with_row_value-no_float packages (codes "before") key before keyed (with_key-no_float packages key no_members refl) in
-    with_row_value-no_float packages (codes "after") key after (with_row_value packages (codes "before") key before keyed) none
+    let none = with_row_value-no_float packages (codes "before") None key before keyed (with_key-no_float packages key no_members refl) in
+    with_row_value-no_float packages (codes "after") None key after (with_row_value packages (codes "before") None key before keyed) none
 
 difference-no_float : (packages : List PackageNameOf) (difference : DifferenceOf) → NoFloat (with_difference packages difference no_members)
 unfolding with_difference

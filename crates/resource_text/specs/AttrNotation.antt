@@ -1,5 +1,5 @@
 -- Which style sets an attribute at a device, which is the list of its numbers, and where the attribute ends, in Android's notation.
-use Rattle.std.specs.Prelude.{ℕ, ◌==◌, ◌&&◌, ◌||◌, not, Bool, true, false, List, [], ◌∷◌, ◌++◌, codes, Option, Some, None, Result, Ok, Err, if◌then◌else◌}
+use Rattle.std.specs.Prelude.{ℕ, ◌==◌, ◌&&◌, ◌||◌, not, Bool, true, false, List, [], ◌∷◌, ◌++◌, codes, map, Option, Some, None, Result, Ok, Err, if◌then◌else◌}
 use Rattle.std.specs.List.{flat_map, fold}
 use Rattle.res_value.specs.Kind.{null_kind, empty_word}
 use Rattle.res_value.specs.declared.res_id.ResId.{ResId}
@@ -13,6 +13,9 @@ use Rattle.answer_text.specs.bags_themes.declared.slot.Slot.{Slot}
 use Rattle.answer_text.specs.bags_themes.declared.slot.Slot.TheVariants.{Refers, Ends}
 use Rattle.answer_text.specs.bags_themes.Attribute.{references_after_slot}
 use Rattle.answer_text.specs.bags_themes.Bag.{bag_of}
+use Rattle.resource_text.specs.declared.attribute.Setting.{Setting}
+use Rattle.resource_text.specs.declared.attribute.Setting.TheVariants.{NotSet, First, TookOver, KeptOut}
+use Rattle.resource_text.specs.declared.attribute.StyleStep.{StyleStep}
 use Rattle.resource_text.specs.Naming.{NamingOf, id_notation, value_at, layer_notation}
 use Rattle.resource_text.specs.EndNotation.{end_notation, end_within}
 use Rattle.resource_text.specs.ExplainNotation.{look_up_notation}
@@ -46,27 +49,48 @@ rows_or_none (Err fault) = []
 abbrev pub rows_of_style : List LayerOf → List ℕ → ResId → List BagRow
 rows_of_style stack d style = rows_or_none (bag_of stack style.0 d)
 
--- what a row of a style does where this set the attribute before it
-unfoldable pub setting_words : Bool → Option BagRow → List ℕ
-setting_words force None = codes "first"
-setting_words force (Some set) = if may_set force (Some set) then codes "took over" else codes "kept out: set already"
+-- what a style does whose own row this is, where that set the attribute before it
+unfoldable pub setting_of : Bool → Option BagRow → Option BagRow → Setting
+setting_of force set None = NotSet
+setting_of force None (Some own) = First
+setting_of force (Some set) (Some own) = if may_set force (Some set) then TookOver else KeptOut
 
--- The line `  STYLE  VALUE  LAYER  DECISION`, where this set the attribute before, and of the style's own rows this one would.
-unfoldable pub style_line : NamingOf → Bool → Option BagRow → ResId → Option BagRow → LineOf
-style_line naming force set style None = record { layer = id_notation naming style.0; config = []; value = []; decision = codes "not set" }
-style_line naming force set style (Some row) = record {
-  layer = id_notation naming style.0;
-  config = value_at naming row.layer row.value;
-  value = layer_notation naming row.layer;
-  decision = setting_words force set;
+-- a style with these rows, of which the own one would set the attribute if nothing had, where this set it before them
+abbrev pub style_step : Bool → ℕ → Option BagRow → ResId → List BagRow → StyleStep
+style_step force attr set style rows =
+    let own = set_after_rows force attr None rows in record { style = style; own = own; setting = setting_of force set own }
+
+-- styles in their order, where this set the attribute before them
+abbrev pub style_steps : List LayerOf → List ℕ → Bool → ℕ → Option BagRow → List ResId → List StyleStep
+style_steps stack d force attr set [] = []
+style_steps stack d force attr set (style ∷ styles) =
+    style_step force attr set style (rows_of_style stack d style)
+    ∷ style_steps stack d force attr (set_after_rows force attr set (rows_of_style stack d style)) styles
+
+-- ---- the lines of styles
+
+unfoldable pub setting_words : Setting → List ℕ
+setting_words NotSet = codes "not set"
+setting_words First = codes "first"
+setting_words TookOver = codes "took over"
+setting_words KeptOut = codes "kept out: set already"
+
+abbrev pub own_value : NamingOf → Option BagRow → List ℕ
+own_value naming None = []
+own_value naming (Some own) = value_at naming own.layer own.value
+
+abbrev pub own_layer : NamingOf → Option BagRow → List ℕ
+own_layer naming None = []
+own_layer naming (Some own) = layer_notation naming own.layer
+
+-- the line `  STYLE  VALUE  LAYER  DECISION`
+unfoldable pub style_line : NamingOf → StyleStep → LineOf
+style_line naming step = record {
+  layer = id_notation naming step.style.0;
+  config = own_value naming step.own;
+  value = own_layer naming step.own;
+  decision = setting_words step.setting;
 }
-
--- those of styles in their order, where this set the attribute before them
-abbrev pub style_lines : NamingOf → Bool → ℕ → List ℕ → Option BagRow → List ResId → List LineOf
-style_lines naming force attr d set [] = []
-style_lines naming force attr d set (style ∷ styles) =
-    style_line naming force set style (set_after_rows force attr None (rows_of_style naming.stack d style))
-    ∷ style_lines naming force attr d (set_after_rows force attr set (rows_of_style naming.stack d style)) styles
 
 -- ---- the end
 
@@ -85,4 +109,4 @@ slot_notation naming d (Ends end) = slot_end naming end
 -- The line of the attribute, those of styles that are applied to nothing, and how what they set comes to its end.
 unfoldable pub attr_notation : NamingOf → Bool → ℕ → List ℕ → List ResId → Slot → List ℕ
 attr_notation naming force attr d styles slot =
-    id_notation naming attr ++ 10 ∷ [] ++ columns_text (style_lines naming force attr d None styles) ++ slot_notation naming d slot ++ 10 ∷ []
+    id_notation naming attr ++ 10 ∷ [] ++ columns_text (map (style_line naming) (style_steps naming.stack d force attr None styles)) ++ slot_notation naming d slot ++ 10 ∷ []

@@ -1,33 +1,24 @@
 -- How two resources differ on the devices of a part of a box, as a JSON value. An object is told member by member; they stand in it in
 -- the order of their names' bytes.
-use Rattle.std.specs.Prelude.{ℕ, List, codes, drop, length, map}
+use Rattle.std.specs.Prelude.{ℕ, List, codes, drop, length, map, None}
 use Rattle.serde_json.specs.Data.{Data, object, Members, no_members, put as with_member}
 use Rattle.notation.specs.declared.form.Form.TheVariants.{Android}
 use Rattle.stack_diff.specs.config_box.box_answers.NumberSet.{SetOf}
 use Rattle.stack_diff.specs.Difference.{RowDifferenceOf, RowRemoved, RowAdded, RowChanged, DifferenceOf, RowsDiffer, ContentsDiffer, FromNothing}
 use Rattle.stack_diff.specs.names.Packages.{PackageNameOf}
-use Rattle.answer_text.specs.Content.{RowKeyOf, ValueContentOf}
-use Rattle.resource_text.specs.ContentJson.{key_data, row_value_data, content_data}
+use Rattle.resource_text.specs.ContentJson.{with_key, with_row_value, content_data}
 use Rattle.resource_text.specs.DevicesJson.{devices_data}
 use Rattle.resource_text.specs.TextJson.{text_data, list_data}
 use Rattle.resource_text.specs.DevicesText.{devices_in}
 
 -- ---- rows
 
--- with the key of a row, beside other members
-abbrev pub with_key : List PackageNameOf → RowKeyOf → Members → Members
-with_key packages key others = with_member (codes "key") (key_data packages key) others
-
--- with the value of a row, at this name
-abbrev pub with_row_value : List PackageNameOf → List ℕ → RowKeyOf → ValueContentOf → Members → Members
-with_row_value packages name key value others = with_member name (row_value_data packages key value) others
-
 -- the key of a row, and its value before, after, or both
 unfoldable pub with_row_change : List PackageNameOf → RowDifferenceOf → Members → Members
-with_row_change packages (RowRemoved row) others = with_row_value packages (codes "before") row.key row.value (with_key packages row.key others)
-with_row_change packages (RowAdded row) others = with_row_value packages (codes "after") row.key row.value (with_key packages row.key others)
+with_row_change packages (RowRemoved row) others = with_row_value packages (codes "before") None row.key row.value (with_key packages row.key others)
+with_row_change packages (RowAdded row) others = with_row_value packages (codes "after") None row.key row.value (with_key packages row.key others)
 with_row_change packages (RowChanged key before after) others =
-    with_row_value packages (codes "after") key after (with_row_value packages (codes "before") key before (with_key packages key others))
+    with_row_value packages (codes "after") None key after (with_row_value packages (codes "before") None key before (with_key packages key others))
 
 abbrev pub row_change_data : List PackageNameOf → RowDifferenceOf → Data
 row_change_data packages row = object (with_row_change packages row no_members)

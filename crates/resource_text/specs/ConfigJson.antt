@@ -14,9 +14,15 @@ use Rattle.resource_text.specs.TextJson.{text_data, number_data}
 
 -- ---- a qualifier, where there is one: what is zero says nothing
 
--- the number of a coordinate; the locale has none
-unfoldable pub with_number : List ℕ → Members → Coord → Members
-with_number r others coord = if coordinate r coord == 0 then others else with_member (name_of coord) (number_data (coordinate r coord)) others
+unfoldable pub with_number : Coord → ℕ → Members → Members
+with_number coord number others = if number == 0 then others else with_member (name_of coord) (number_data number) others
+
+abbrev pub with_number_of : (Coord → ℕ) → Members → Coord → Members
+with_number_of number others coord = with_number coord (number coord) others
+
+-- those of all coordinates; at the locale it is 0
+abbrev pub with_numbers : (Coord → ℕ) → Members → Members
+with_numbers number others = fold (with_number_of number) others all_coords
 
 unfoldable pub with_locale : Locale → Members → Members
 with_locale locale others =
@@ -31,8 +37,8 @@ with_bytes name bytes others = if is_zero bytes then others else with_member nam
 unfoldable pub qualifiers_data : List ℕ → Data
 qualifiers_data r =
     object (with_bytes (codes "variant") (locale_variant r) (with_bytes (codes "script") (locale_script r)
-    (with_locale (locale_in r) (fold (with_number r) no_members all_coords))))
+    (with_locale (locale_in r) (with_numbers (coordinate r) no_members))))
 
 -- the qualifiers, and the words of Android for them
 unfoldable pub config_data : List ℕ → Data
-config_data r = object (with_member (codes "word") (text_data (config_text r)) (with_member (codes "qualifiers") (qualifiers_data r) no_members))
+config_data r = object (with_member (codes "words") (text_data (config_text r)) (with_member (codes "qualifiers") (qualifiers_data r) no_members))

@@ -43,10 +43,13 @@ with_reason (TookOver rule) others = with_rule rule others
 with_reason TookOverEqual others = others
 with_reason (KeptOut rule) others = with_rule rule others
 
--- what it does, why, and all of it in words
+-- what is done, and all of it in words
+unfoldable pub with_did : List ℕ → List ℕ → Members → Members
+with_did did words others = with_member (codes "words") (text_data words) (with_member (codes "did") (string did) others)
+
+-- with the reason
 unfoldable pub decision_data : Decision → Data
-decision_data decision =
-    object (with_member (codes "words") (text_data (decision_notation decision)) (with_reason decision (with_member (codes "did") (string (did decision)) no_members)))
+decision_data decision = object (with_did (did decision) (decision_notation decision) (with_reason decision no_members))
 
 -- ---- a candidate
 
@@ -58,7 +61,7 @@ held id layer (BagOf parent rows) = of_end.Bag id
 unfoldable pub candidate_json : NamingOf → ResId → TracedCandidateOf → List ℕ
 candidate_json naming id traced =
     line_json (with_member (codes "holds") (end_data naming None (held id traced.candidate.layer traced.candidate.row.cell))
-    (with_member (codes "from") (place_data naming traced.candidate) (with_member (codes "decision") (decision_data traced.decision) (line_members (codes "candidate")))))
+    (with_member (codes "from") (place_data naming traced.candidate.layer traced.candidate.row.config) (with_member (codes "decision") (decision_data traced.decision) (line_members (codes "candidate")))))
 
 -- ---- the look-ups
 

@@ -5,12 +5,12 @@ use Rattle.res_value.specs.Goal.{GoalSeen, IdGoal, AttrGoal}
 use Rattle.reference_resolver.specs.declared.end.End.{End}
 use Rattle.reference_resolver.specs.declared.end.End.TheVariants as of_end
 use Rattle.answer_text.specs.bags_themes.AttributeTrace.{attribute_trace}
-use Rattle.resource_text.specs.EndJson.{with_end, with_end_at, with_layer}
+use Rattle.resource_text.specs.EndJson.{with_end, with_end_at, with_from_layer}
 use Rattle.resource_text.specs.Naming.{NamingOf}
 
 -- a value of a style has no row of its own, so its layer alone is told
 unfoldable pub with_layer_of : NamingOf → End → Members → Members
-with_layer_of naming (of_end.Value layer value) others = with_member (codes "from") (object (with_layer naming layer no_members)) others
+with_layer_of naming (of_end.Value layer value) others = with_from_layer naming layer others
 with_layer_of naming end others = others
 
 -- where an attribute ends, or a leaf says that a goal does

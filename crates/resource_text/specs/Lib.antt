@@ -13,6 +13,7 @@ pub mod ColumnsSeen
 pub mod ExplainNotation
 pub mod TracedSeen
 pub mod RejectionNotation
+pub mod VerdictForms
 pub mod DevicesText
 pub mod ContentText
 pub mod BagRows
@@ -30,6 +31,7 @@ pub mod GoalEndJson
 pub mod VerdictJson
 pub mod BagJson
 pub mod AttrJson
+pub mod RowJson
 pub mod ChangeBlock
 pub mod Unfolded
 pub use Rattle.cert_maker.specs as cert_maker

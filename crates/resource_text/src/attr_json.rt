@@ -1,21 +1,20 @@
 //! Which style sets an attribute, and where the attribute ends, as lines of JSON.
 
 ghost use Rattle.std.specs.Prelude.{◌≡◌, false, IfOk, OnOk};
+ghost use Rattle.std.specs.List.{flat_map};
 ghost use Rattle.contract_words.specs.Writes.{Writes};
 ghost use Rattle.serde_json.specs.View.{view, members_view};
 ghost use Rattle.serde_json.specs.Written.{has_float};
 ghost use Rattle.reference_resolver.specs.config_precedence.config_record.DeviceSeen.{device_numbers};
-ghost use Rattle.resource_text.specs.AttrJson.{with_setting, style_json, styles_json, slot_line, slot_json, attr_json};
+ghost use Rattle.resource_text.specs.AttrJson.{setting_data, setting_did, with_own, style_json, slot_line, slot_json, attr_json};
 
-use crate::attribute::{rows_of_style, set_after_rows, write_setting};
-use crate::end_json::end_json;
-use crate::explanation_json::write_look_ups;
+use crate::attribute::{Setting, StyleStep, style_steps};
+use crate::end_json::end_within_json;
+use crate::explanation_json::{put_did, write_look_ups};
 use crate::goal_end_json::slot_end_json;
-use crate::last::last_within;
 use crate::line_json::{line_members, write_line};
 use crate::look_ups::AFTER_SLOT;
 use crate::naming::Naming;
-use crate::text_json::text_json;
 use answer_text::{BagRow, ResId};
 use bags_themes::{Device, Slot};
 use serde_json::{Map, Value, put};
@@ -57,29 +56,23 @@ fn write_attr<W: Write + Drop>(
     let mut members = line_members(naming.alloc(), "attribute")?;
     naming.put_id(attr, &mut members)?;
     write_line(naming.alloc(), members, out)?;
-    write_styles(naming, device, force, attr, styles, out)?;
+    let steps = style_steps(naming.alloc(), naming.stack(), device, force, attr, styles)?;
+    write_styles(naming, &steps, out)?;
     write_slot(naming, device, slot, out)
 }
 
 // ---- styles
 
-#[tactic(auto, using(crate::proofs::StyleSteps::style_steps))]
+#[tactic(auto, using(answer_text::proofs::ItemSteps::item_steps))]
 fn write_styles<W: Write + Drop>(
     naming: &Naming<'_, '_, '_>,
-    device: &Device,
-    force: bool,
-    attr: ResId,
-    styles: &[ResId],
+    steps: &[StyleStep],
     out: &mut W,
 ) -> io::Result<()>
-    ensures { Writes W.contents out.old out.new result (styles_json naming.now force attr.0 (device_numbers device.now) None styles.now) }
+    ensures { Writes W.contents out.old out.new result (flat_map (style_json naming.now) steps.now) }
 {
-    let mut set = None;
-    for style in styles {
-        let rows = rows_of_style(naming.alloc(), naming.stack(), device, *style)?;
-        let own = set_after_rows(force, attr, None, &rows);
-        write_style(naming, force, &set, *style, own, out)?;
-        set = set_after_rows(force, attr, set, &rows);
+    for step in steps {
+        write_style(naming, *step, out)?;
     }
     Ok(())
 }
@@ -87,46 +80,65 @@ fn write_styles<W: Write + Drop>(
 #[tactic(auto, unfolding(crate::specs::AttrJson::style_json))]
 fn write_style<W: Write + Drop>(
     naming: &Naming<'_, '_, '_>,
-    force: bool,
-    set: &Option<BagRow>,
-    style: ResId,
-    own: Option<BagRow>,
+    step: StyleStep,
     out: &mut W,
 ) -> io::Result<()>
-    ensures { Writes W.contents out.old out.new result (style_json naming.now force set.now style own) }
-{
-    let mut members = line_members(naming.alloc(), "style")?;
-    naming.put_id(style, &mut members)?;
-    put_setting(naming, force, set, own, &mut members)?;
-    write_line(naming.alloc(), members, out)
-}
-
-#[tactic(auto, unfolding(crate::specs::AttrJson::with_setting))]
-fn put_setting(
-    naming: &Naming<'_, '_, '_>,
-    force: bool,
-    set: &Option<BagRow>,
-    own: Option<BagRow>,
-    members: &mut Map<String, Value>,
-) -> io::Result<()>
-    ensures { OnOk result (members_view members.new.entries ≡ with_setting naming.now force set.now own (members_view members.old.entries)) }
+    ensures { Writes W.contents out.old out.new result (style_json naming.now step) }
 {
     let alloc = naming.alloc();
+    let mut members = line_members(alloc, "style")?;
+    naming.put_id(step.style, &mut members)?;
+    put(
+        &mut members,
+        alloc,
+        "decision",
+        setting_json(alloc, step.setting)?,
+    )?;
+    put_own(naming, step.own, &mut members)?;
+    write_line(alloc, members, out)
+}
+
+#[tactic(auto, unfolding(crate::specs::AttrJson::setting_data))]
+fn setting_json(alloc: Global, setting: Setting) -> Result<Value, AllocError>
+    ensures { IfOk result (λ json. view json ≡ setting_data setting) }
+{
+    let mut members = Map::new(alloc);
+    put_did(
+        alloc,
+        setting_did(setting),
+        setting.words().as_bytes(),
+        &mut members,
+    )?;
+    Ok(Value::Object(members))
+}
+
+#[tactic(auto, unfolding(crate::specs::AttrJson::setting_did))]
+fn setting_did(setting: Setting) -> &'static str
+    ensures { result.now ≡ setting_did setting }
+{
+    match setting {
+        Setting::NotSet => "not set",
+        Setting::First => "first",
+        Setting::TookOver => "took over",
+        Setting::KeptOut => "kept out",
+    }
+}
+
+// Puts the value by which a style would set the attribute, and its layer.
+#[tactic(auto, unfolding(crate::specs::AttrJson::with_own))]
+fn put_own(
+    naming: &Naming<'_, '_, '_>,
+    own: Option<BagRow>,
+    members: &mut Map<String, Value>,
+) -> Result<(), AllocError>
+    ensures { OnOk result (members_view members.new.entries ≡ with_own naming.now own (members_view members.old.entries)) }
+{
     let Some(row) = own else {
-        put(members, alloc, "decision", text_json(alloc, b"not set")?)?;
         return Ok(());
     };
-    put(
-        members,
-        alloc,
-        "value",
-        naming.value_json(row.layer, row.value)?,
-    )?;
-    naming.put_layer(row.layer, members)?;
-    let mut words = Vec::new(alloc);
-    write_setting(force, set, &mut words)?;
-    put(members, alloc, "decision", text_json(alloc, &words)?)?;
-    Ok(())
+    let value = naming.value_json(row.layer, row.value)?;
+    put(members, naming.alloc(), "value", value)?;
+    naming.put_from_layer(row.layer, members)
 }
 
 // ---- the end
@@ -144,8 +156,7 @@ fn write_slot<W: Write + Drop>(
     match slot {
         Slot::Refers(target) => {
             write_look_ups(naming, device, target, AFTER_SLOT, out)?;
-            let last = last_within(naming.stack(), target, device, AFTER_SLOT);
-            let end = end_json(naming, &last.selected, last.end)?;
+            let end = end_within_json(naming, device, target, AFTER_SLOT)?;
             write_slot_line(naming.alloc(), end, out)
         }
         Slot::Ends(end) => {

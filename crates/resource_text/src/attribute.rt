@@ -4,7 +4,7 @@ ghost use Rattle.std.specs.Prelude.{◌≡◌, map, IfOk};
 ghost use Rattle.contract_words.specs.Writes.{Writes};
 ghost use Rattle.reference_resolver.specs.config_precedence.config_record.DeviceSeen.{device_numbers};
 ghost use Rattle.resource_text.specs.ColumnsSeen.{line_of};
-ghost use Rattle.resource_text.specs.AttrNotation.{is_undefined, may_set, set_after, set_after_rows, rows_of_style, setting_words, style_line, style_lines, slot_end, slot_notation, attr_notation};
+ghost use Rattle.resource_text.specs.AttrNotation.{is_undefined, may_set, set_after, set_after_rows, setting_of, rows_of_style, style_line, style_steps, slot_end, slot_notation, attr_notation};
 
 use crate::columns::{Line, write_columns};
 use crate::ends::{write_end, write_end_within};
@@ -15,6 +15,40 @@ use answer_text::{BagFault, BagRow, End, ResId, Stack, bag, kind};
 use bags_themes::{Device, Slot};
 use std::alloc::{AllocError, Global};
 use std::io::{self, Write};
+
+/// What a style does.
+#[derive(Clone, Copy)]
+pub(crate) enum Setting {
+    NotSet,
+    First,
+    TookOver,
+    KeptOut,
+}
+
+impl Setting {
+    ghost use Rattle.std.specs.Prelude.{◌≡◌};
+    ghost use Rattle.resource_text.specs.AttrNotation.{setting_words};
+
+    #[tactic(auto, unfolding(crate::specs::AttrNotation::setting_words))]
+    pub fn words(self) -> &'static str
+        ensures { result.now ≡ setting_words self }
+    {
+        match self {
+            Setting::NotSet => "not set",
+            Setting::First => "first",
+            Setting::TookOver => "took over",
+            Setting::KeptOut => "kept out: set already",
+        }
+    }
+}
+
+/// A style with the row by which it would set the attribute, and what it does.
+#[derive(Clone, Copy)]
+pub(crate) struct StyleStep {
+    pub style: ResId,
+    pub own: Option<BagRow>,
+    pub setting: Setting,
+}
 
 /// A line for an attribute, one for each style with the row by which it would set the attribute, and what it does, and how this
 /// comes to its end. The slot is that of the attribute in the theme that the styles build, with force or without.
@@ -50,7 +84,8 @@ fn write_attr<W: Write + Drop>(
 {
     naming.write_id(attr, out)?;
     out.write_all(b"\n")?;
-    let lines = style_lines(naming, device, force, attr, styles)?;
+    let steps = style_steps(naming.alloc(), naming.stack(), device, force, attr, styles)?;
+    let lines = style_lines(naming, &steps)?;
     write_columns(&lines, out)?;
     write_slot(naming, device, slot, out)?;
     out.write_all(b"\n")
@@ -58,29 +93,35 @@ fn write_attr<W: Write + Drop>(
 
 // ---- styles
 
-fn style_lines(
-    naming: &Naming<'_, '_, '_>,
+/// What each style does, in their order.
+pub(crate) fn style_steps(
+    alloc: Global,
+    stack: &Stack<'_>,
     device: &Device,
     force: bool,
     attr: ResId,
     styles: &[ResId],
-) -> io::Result<Vec<Line>>
-    ensures { IfOk result (λ lines. map line_of lines.items ≡ style_lines naming.now force attr.0 (device_numbers device.now) None styles.now) }
+) -> Result<Vec<StyleStep>, AllocError>
+    ensures { IfOk result (λ steps. steps.items ≡ style_steps stack.now (device_numbers device.now) force attr.0 None styles.now) }
 {
-    let mut lines = Vec::new(naming.alloc());
+    let mut steps = Vec::with_capacity(alloc, styles.len())?;
     let mut set = None;
     for style in styles {
-        let rows = rows_of_style(naming.alloc(), naming.stack(), device, *style)?;
+        let rows = rows_of_style(alloc, stack, device, *style)?;
         let own = set_after_rows(force, attr, None, &rows);
-        let line = style_line(naming, force, &set, *style, own)?;
-        lines.push(line)?;
+        let setting = setting_of(force, &set, &own);
+        steps.push(StyleStep {
+            style: *style,
+            own,
+            setting,
+        })?;
         set = set_after_rows(force, attr, set, &rows);
     }
-    Ok(lines)
+    Ok(steps)
 }
 
-/// The rows of a style; one that is refused has none.
-pub(crate) fn rows_of_style(
+// The rows of a style; one that is refused has none.
+fn rows_of_style(
     alloc: Global,
     stack: &Stack<'_>,
     device: &Device,
@@ -99,8 +140,8 @@ pub(crate) fn rows_of_style(
     }
 }
 
-/// What an attribute is set by after rows, where this set it before them.
-pub(crate) fn set_after_rows(
+// What an attribute is set by after rows, where this set it before them.
+fn set_after_rows(
     force: bool,
     attr: ResId,
     before: Option<BagRow>,
@@ -143,43 +184,49 @@ fn is_undefined(row: &BagRow) -> bool
     row.value.kind == kind::NULL && row.value.word != kind::NULL_EMPTY
 }
 
-#[tactic(auto, unfolding(crate::specs::AttrNotation::style_line))]
-fn style_line(
-    naming: &Naming<'_, '_, '_>,
-    force: bool,
-    set: &Option<BagRow>,
-    style: ResId,
-    own: Option<BagRow>,
-) -> io::Result<Line>
-    ensures { IfOk result (λ line. line_of line ≡ style_line naming.now force set.now style own) }
+// What a style does whose own row this is, where that set the attribute before it.
+#[tactic(auto, unfolding(crate::specs::AttrNotation::setting_of))]
+fn setting_of(force: bool, set: &Option<BagRow>, own: &Option<BagRow>) -> Setting
+    ensures { result ≡ setting_of force set.now own.now }
 {
-    let mut line = Line::new(naming.alloc());
-    naming.write_id(style, &mut line.layer)?;
-    match own {
-        Some(row) => {
-            naming.write_value(row.layer, row.value, &mut line.config)?;
-            naming.write_layer(row.layer, &mut line.value)?;
-            write_setting(force, set, &mut line.decision)?;
-        }
-        None => line.decision.write_all(b"not set")?,
+    if own.is_none() {
+        return Setting::NotSet;
     }
-    Ok(line)
+    if set.is_none() {
+        return Setting::First;
+    }
+    if may_set(force, set) {
+        Setting::TookOver
+    } else {
+        Setting::KeptOut
+    }
 }
 
-/// Writes what a row of a style does where this set the attribute before it.
-#[tactic(auto, unfolding(crate::specs::AttrNotation::setting_words))]
-pub(crate) fn write_setting<W: Write + Drop>(
-    force: bool,
-    set: &Option<BagRow>,
-    out: &mut W,
-) -> io::Result<()>
-    ensures { Writes W.contents out.old out.new result (setting_words force set.now) }
+// ---- the lines of styles
+
+fn style_lines(naming: &Naming<'_, '_, '_>, steps: &[StyleStep]) -> io::Result<Vec<Line>>
+    ensures { IfOk result (λ lines. map line_of lines.items ≡ map (style_line naming.now) steps.now) }
 {
-    match set {
-        None => out.write_all(b"first"),
-        Some(_) if may_set(force, set) => out.write_all(b"took over"),
-        Some(_) => out.write_all(b"kept out: set already"),
+    let mut lines = Vec::with_capacity(naming.alloc(), steps.len())?;
+    for step in steps {
+        let line = style_line(naming, *step)?;
+        lines.push(line)?;
     }
+    Ok(lines)
+}
+
+#[tactic(auto, unfolding(crate::specs::AttrNotation::style_line))]
+fn style_line(naming: &Naming<'_, '_, '_>, step: StyleStep) -> io::Result<Line>
+    ensures { IfOk result (λ line. line_of line ≡ style_line naming.now step) }
+{
+    let mut line = Line::new(naming.alloc());
+    naming.write_id(step.style, &mut line.layer)?;
+    if let Some(own) = step.own {
+        naming.write_value(own.layer, own.value, &mut line.config)?;
+        naming.write_layer(own.layer, &mut line.value)?;
+    }
+    line.decision.write_all(step.setting.words().as_bytes())?;
+    Ok(line)
 }
 
 // ---- the end

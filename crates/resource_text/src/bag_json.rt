@@ -3,23 +3,20 @@
 ghost use Rattle.std.specs.Prelude.{◌≡◌, IfOk};
 ghost use Rattle.std.specs.List.{enumerate_from, flat_map};
 ghost use Rattle.contract_words.specs.Writes.{Writes};
-ghost use Rattle.serde_json.specs.View.{view};
-ghost use Rattle.res_value.specs.ResId.{id_text};
 ghost use Rattle.resource_text.specs.BagJson.{row_json, rows_json};
-ghost use Rattle.resource_text.specs.TextJson.{text_data};
 
 use crate::line_json::{line_members, write_line};
 use crate::naming::Naming;
-use crate::text_json::text_json;
-use answer_text::{BagRow, Keys, ResId, write_id};
-use serde_json::{Value, put};
-use std::alloc::{AllocError, Global};
+use crate::text_json::id_json;
+use answer_text::{BagRow, Keys, ResId};
+use serde_json::put;
+use std::alloc::AllocError;
 use std::io::{self, Write};
 
 /// A line for each row of the bag that an id selects, in their order, each a JSON object.
 ///
 /// ```text
-/// bag_rows_json(&naming, id, rows)?; // {"id":"0x01010098","key":"android:attr/textColor","layer":0,"line":"row","path":..,"value":..}
+/// bag_rows_json(&naming, id, rows)?; // {"from":{..},"id":"0x01010098","key":"android:attr/textColor","line":"row","value":..}
 /// ```
 pub fn bag_rows_json(
     naming: &Naming<'_, '_, '_>,
@@ -67,18 +64,6 @@ fn write_row<W: Write + Drop>(
     let id = id_json(alloc, row.name)?;
     put(&mut members, alloc, "id", id)?;
     naming.put_row(keys, place, row, &mut members)?;
-    naming.put_layer(row.layer, &mut members)?;
+    naming.put_from_layer(row.layer, &mut members)?;
     write_line(alloc, members, out)
-}
-
-// An id in hexadecimal digits.
-fn id_json(alloc: Global, id: ResId) -> Result<Value, AllocError>
-    ensures { IfOk result (λ json. view json ≡ text_data (id_text id.0)) }
-{
-    let mut text = Vec::new(alloc);
-    match write_id(id, &mut text) {
-        Ok(()) => text_json(alloc, &text),
-        // To a `Vec` only a want of memory is a fault.
-        Err(_) => Err(AllocError),
-    }
 }

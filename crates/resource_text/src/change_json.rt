@@ -4,16 +4,16 @@ ghost use Rattle.std.specs.Prelude.{◌≡◌, map, IfOk, OnOk};
 ghost use Rattle.serde_json.specs.Data.{put as with_member};
 ghost use Rattle.serde_json.specs.View.{view, members_view};
 ghost use Rattle.stack_diff.specs.DifferenceSeen.{row_difference_of, difference_of};
-ghost use Rattle.answer_text.specs.ContentSeen.{value_content_of, row_key_of, content_of};
+ghost use Rattle.answer_text.specs.ContentSeen.{content_of};
 ghost use Rattle.resource_text.specs.ContentJson.{content_data};
 ghost use Rattle.resource_text.specs.TextJson.{text_data};
-ghost use Rattle.resource_text.specs.ChangeJson.{with_key, with_row_value, with_row_change, row_change_data, device_words, with_devices, with_difference, change_data};
+ghost use Rattle.resource_text.specs.ChangeJson.{with_row_change, row_change_data, device_words, with_devices, with_difference, change_data};
 
-use crate::content_json::{content_json, key_json, row_value_json};
+use crate::content_json::{content_json, put_key, put_row_value};
 use crate::devices_json::devices_json;
 use crate::devices_text::write_devices_in;
 use crate::text_json::text_json;
-use answer_text::{Content, Form, RowKey, ValueContent};
+use answer_text::{Content, Form};
 use serde_json::{Map, Value, put};
 use stack_diff::{ConfigBox, Difference, PackageNames, RowDifference};
 use std::alloc::{AllocError, Global};
@@ -158,44 +158,20 @@ fn put_row_change(
     match row {
         RowDifference::Removed(row) => {
             put_key(alloc, packages, &row.key, members)?;
-            put_row_value(alloc, packages, "before", &row.key, &row.value, members)
+            put_row_value(
+                alloc, packages, "before", None, &row.key, &row.value, members,
+            )
         }
         RowDifference::Added(row) => {
             put_key(alloc, packages, &row.key, members)?;
-            put_row_value(alloc, packages, "after", &row.key, &row.value, members)
+            put_row_value(
+                alloc, packages, "after", None, &row.key, &row.value, members,
+            )
         }
         RowDifference::Changed { key, before, after } => {
             put_key(alloc, packages, key, members)?;
-            put_row_value(alloc, packages, "before", key, before, members)?;
-            put_row_value(alloc, packages, "after", key, after, members)
+            put_row_value(alloc, packages, "before", None, key, before, members)?;
+            put_row_value(alloc, packages, "after", None, key, after, members)
         }
     }
-}
-
-fn put_key(
-    alloc: Global,
-    packages: &PackageNames<'_>,
-    key: &RowKey<'_>,
-    members: &mut Map<String, Value>,
-) -> Result<(), AllocError>
-    ensures { OnOk result (members_view members.new.entries
-        ≡ with_key packages.now (row_key_of key.now) (members_view members.old.entries)) }
-{
-    let key = key_json(alloc, packages, key)?;
-    put(members, alloc, "key", key)
-}
-
-fn put_row_value(
-    alloc: Global,
-    packages: &PackageNames<'_>,
-    name: &str,
-    key: &RowKey<'_>,
-    value: &ValueContent<'_>,
-    members: &mut Map<String, Value>,
-) -> Result<(), AllocError>
-    ensures { OnOk result (members_view members.new.entries
-        ≡ with_row_value packages.now name.now (row_key_of key.now) (value_content_of value.now) (members_view members.old.entries)) }
-{
-    let value = row_value_json(alloc, packages, key, value)?;
-    put(members, alloc, name, value)
 }

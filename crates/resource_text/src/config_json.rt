@@ -2,8 +2,8 @@
 
 ghost use Rattle.std.specs.Prelude.{◌≡◌, ◌≤◌, length, fold, IfOk, OnOk};
 ghost use Rattle.serde_json.specs.View.{view, members_view};
-ghost use Rattle.config_box.specs.config_record.Record.{record_bytes};
-ghost use Rattle.resource_text.specs.ConfigJson.{with_number, with_locale, with_bytes, qualifiers_data, config_data};
+ghost use Rattle.config_box.specs.config_record.Record.{coordinate, record_bytes};
+ghost use Rattle.resource_text.specs.ConfigJson.{with_number, with_number_of, with_locale, with_bytes, qualifiers_data, config_data};
 
 use crate::devices_json::locale_json;
 use crate::text_json::text_json;
@@ -16,21 +16,21 @@ use std::alloc::{AllocError, Global};
 /// A configuration: an object with its qualifiers that are not zero, and Android's words for it.
 ///
 /// ```text
-/// let config = config_json(alloc, &row.config)?; // {"qualifiers":{"density":320,"sdk":4},"word":"xhdpi-v4"}
+/// let config = config_json(alloc, &row.config)?; // {"qualifiers":{"density":320,"sdk":4},"words":"xhdpi-v4"}
 /// ```
 #[tactic(auto, unfolding(crate::specs::ConfigJson::config_data))]
 pub(crate) fn config_json(alloc: Global, config: &Record<'_>) -> Result<Value, AllocError>
     ensures { IfOk result (λ json. view json ≡ config_data (record_bytes config.now)) }
 {
-    let mut word = Vec::new(alloc);
-    let Ok(()) = write_config(config, &mut word) else {
+    let mut words = Vec::new(alloc);
+    let Ok(()) = write_config(config, &mut words) else {
         // To a `Vec` only a want of memory is a fault.
         return Err(AllocError);
     };
     let mut members = Map::new(alloc);
     let qualifiers = qualifiers_json(alloc, config)?;
     put(&mut members, alloc, "qualifiers", qualifiers)?;
-    put(&mut members, alloc, "word", text_json(alloc, &word)?)?;
+    put(&mut members, alloc, "words", text_json(alloc, &words)?)?;
     Ok(Value::Object(members))
 }
 
@@ -53,25 +53,24 @@ fn put_numbers(
     members: &mut Map<String, Value>,
 ) -> Result<(), AllocError>
     ensures { OnOk result (members_view members.new.entries
-        ≡ fold (with_number (record_bytes config.now)) (members_view members.old.entries) coords.now) }
+        ≡ fold (with_number_of (coordinate (record_bytes config.now))) (members_view members.old.entries) coords.now) }
 {
     for coord in coords {
-        put_number(alloc, config, *coord, members)?;
+        put_number(alloc, *coord, config.get(*coord), members)?;
     }
     Ok(())
 }
 
+/// Puts the number at a coordinate, unless it is 0.
 #[tactic(auto, unfolding(crate::specs::ConfigJson::with_number))]
-fn put_number(
+pub(crate) fn put_number(
     alloc: Global,
-    config: &Record<'_>,
     coord: Coord,
+    number: u32,
     members: &mut Map<String, Value>,
 ) -> Result<(), AllocError>
-    ensures { OnOk result (members_view members.new.entries
-        ≡ with_number (record_bytes config.now) (members_view members.old.entries) coord) }
+    ensures { OnOk result (members_view members.new.entries ≡ with_number coord number (members_view members.old.entries)) }
 {
-    let number = config.get(coord);
     if number == 0 {
         return Ok(());
     }

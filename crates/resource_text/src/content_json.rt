@@ -5,10 +5,10 @@ ghost use Rattle.serde_json.specs.View.{view, members_view};
 ghost use Rattle.serde_json.specs.Written.{compact_text};
 ghost use Rattle.names.specs.Label.{label_of};
 ghost use Rattle.answer_text.specs.ContentSeen.{value_content_of, row_key_of, row_content_of, content_of};
-ghost use Rattle.answer_text.specs.InForm.{value_in, key_in};
+ghost use Rattle.answer_text.specs.InForm.{value_in, key_in, row_value_in};
 ghost use Rattle.answer_text.specs.ValueText.{value_content_text};
 ghost use Rattle.resource_text.specs.TextJson.{text_data};
-ghost use Rattle.resource_text.specs.ContentJson.{label_data, with_value, value_data, key_data, row_value_data, row_data, with_content, content_data};
+ghost use Rattle.resource_text.specs.ContentJson.{label_data, with_kind_and_word, with_stored, with_value, value_data, key_data, with_key, with_row_value, with_row, row_data, with_content, content_data};
 ghost use Rattle.notation.specs.declared.form.Form.TheVariants.{Android};
 
 use crate::text_json::text_json;
@@ -57,18 +57,19 @@ fn label_json(
 
 // ---- values
 
-/// What a value says, as `{"kind":5,"word":4097,"xml":"16dp"}`.
+/// What a value says, as `{"kind":5,"word":4097,"xml":"16dp"}`, and what its row holds, where that is told.
 pub(crate) fn value_json(
     alloc: Global,
     packages: &PackageNames<'_>,
+    stored: Option<res_value::Value>,
     value: &ValueContent<'_>,
 ) -> Result<Value, AllocError>
-    ensures { IfOk result (λ json. view json ≡ value_data packages.now (value_content_of value.now)
+    ensures { IfOk result (λ json. view json ≡ value_data packages.now stored (value_content_of value.now)
         (value_in Android packages.now (value_content_of value.now))) }
 {
     let mut xml = Vec::new(alloc);
     match write_value_in(Form::Android, packages, value, &mut xml) {
-        Ok(()) => value_with(alloc, packages, value, &xml),
+        Ok(()) => value_with(alloc, packages, stored, value, &xml),
         // To a `Vec` only a want of memory is a fault.
         Err(_) => Err(AllocError),
     }
@@ -79,15 +80,45 @@ pub(crate) fn value_json(
 fn value_with(
     alloc: Global,
     packages: &PackageNames<'_>,
+    stored: Option<res_value::Value>,
     value: &ValueContent<'_>,
     xml: &[u8],
 ) -> Result<Value, AllocError>
-    ensures { IfOk result (λ json. view json ≡ value_data packages.now (value_content_of value.now) xml.now) }
+    ensures { IfOk result (λ json. view json ≡ value_data packages.now stored (value_content_of value.now) xml.now) }
 {
     let mut members = Map::new(alloc);
     put(&mut members, alloc, "xml", text_json(alloc, xml)?)?;
+    put_stored(alloc, stored, &mut members)?;
     put_value(alloc, packages, value, &mut members)?;
     Ok(Value::Object(members))
+}
+
+// Puts what a row holds, where that is told.
+#[tactic(auto, unfolding(crate::specs::ContentJson::with_stored))]
+fn put_stored(
+    alloc: Global,
+    stored: Option<res_value::Value>,
+    members: &mut Map<String, Value>,
+) -> Result<(), AllocError>
+    ensures { OnOk result (members_view members.new.entries ≡ with_stored stored (members_view members.old.entries)) }
+{
+    let Some(value) = stored else {
+        return Ok(());
+    };
+    let mut of_value = Map::new(alloc);
+    put_kind_and_word(alloc, value, &mut of_value)?;
+    put(members, alloc, "stored", Value::Object(of_value))
+}
+
+fn put_kind_and_word(
+    alloc: Global,
+    value: res_value::Value,
+    members: &mut Map<String, Value>,
+) -> Result<(), AllocError>
+    ensures { OnOk result (members_view members.new.entries ≡ with_kind_and_word value (members_view members.old.entries)) }
+{
+    put(members, alloc, "kind", Value::from(value.kind))?;
+    put(members, alloc, "word", Value::from(value.word))
 }
 
 // Puts what it says beside other members.
@@ -120,8 +151,8 @@ fn put_value(
             put(members, alloc, "attribute", name)
         }
         ValueContent::Other { kind, word } => {
-            put(members, alloc, "kind", Value::from(*kind))?;
-            put(members, alloc, "word", Value::from(*word))
+            let (kind, word) = (*kind, *word);
+            put_kind_and_word(alloc, res_value::Value { kind, word }, members)
         }
     }
 }
@@ -144,9 +175,40 @@ fn raw_json(
 
 // ---- rows of bags
 
-/// What tells a row from the others of its bag: a place by its number, else a quantity or a name.
+/// Puts what tells a row from the others of its bag, and what it says, and what it holds, where that is told.
+#[tactic(auto, unfolding(crate::specs::ContentJson::with_row))]
+pub(crate) fn put_row(
+    alloc: Global,
+    packages: &PackageNames<'_>,
+    stored: Option<res_value::Value>,
+    key: &RowKey<'_>,
+    value: &ValueContent<'_>,
+    members: &mut Map<String, Value>,
+) -> Result<(), AllocError>
+    ensures { OnOk result (members_view members.new.entries
+        ≡ with_row packages.now stored (row_key_of key.now) (value_content_of value.now) (members_view members.old.entries)) }
+{
+    put_key(alloc, packages, key, members)?;
+    put_row_value(alloc, packages, "value", stored, key, value, members)
+}
+
+/// Puts what tells a row from the others of its bag.
+pub(crate) fn put_key(
+    alloc: Global,
+    packages: &PackageNames<'_>,
+    key: &RowKey<'_>,
+    members: &mut Map<String, Value>,
+) -> Result<(), AllocError>
+    ensures { OnOk result (members_view members.new.entries
+        ≡ with_key packages.now (row_key_of key.now) (members_view members.old.entries)) }
+{
+    let key = key_json(alloc, packages, key)?;
+    put(members, alloc, "key", key)
+}
+
+// A place by its number, else a quantity or a name.
 #[tactic(auto, unfolding(crate::specs::ContentJson::key_data))]
-pub(crate) fn key_json(
+fn key_json(
     alloc: Global,
     packages: &PackageNames<'_>,
     key: &RowKey<'_>,
@@ -174,25 +236,41 @@ fn key_text_json(
     }
 }
 
-/// The value of a row with this key.
-pub(crate) fn row_value_json(
+/// Puts the value of a row that has this key, at a name.
+pub(crate) fn put_row_value(
     alloc: Global,
     packages: &PackageNames<'_>,
+    name: &str,
+    stored: Option<res_value::Value>,
+    key: &RowKey<'_>,
+    value: &ValueContent<'_>,
+    members: &mut Map<String, Value>,
+) -> Result<(), AllocError>
+    ensures { OnOk result (members_view members.new.entries
+        ≡ with_row_value packages.now name.now stored (row_key_of key.now) (value_content_of value.now) (members_view members.old.entries)) }
+{
+    let value = row_value_json(alloc, packages, stored, key, value)?;
+    put(members, alloc, name, value)
+}
+
+fn row_value_json(
+    alloc: Global,
+    packages: &PackageNames<'_>,
+    stored: Option<res_value::Value>,
     key: &RowKey<'_>,
     value: &ValueContent<'_>,
 ) -> Result<Value, AllocError>
-    ensures { IfOk result (λ json. view json ≡ row_value_data packages.now (row_key_of key.now) (value_content_of value.now)) }
+    ensures { IfOk result (λ json. view json ≡ value_data packages.now stored (value_content_of value.now)
+        (row_value_in Android packages.now (row_key_of key.now) (value_content_of value.now))) }
 {
     let mut xml = Vec::new(alloc);
     match write_row_value_in(Form::Android, packages, key, value, &mut xml) {
-        Ok(()) => value_with(alloc, packages, value, &xml),
+        Ok(()) => value_with(alloc, packages, stored, value, &xml),
         // To a `Vec` only a want of memory is a fault.
         Err(_) => Err(AllocError),
     }
 }
 
-// A row of a bag: its key, and its value.
-#[tactic(auto, unfolding(crate::specs::ContentJson::row_data))]
 fn row_json(
     alloc: Global,
     packages: &PackageNames<'_>,
@@ -201,10 +279,7 @@ fn row_json(
     ensures { IfOk result (λ json. view json ≡ row_data packages.now (row_content_of row.now)) }
 {
     let mut members = Map::new(alloc);
-    let key = key_json(alloc, packages, &row.key)?;
-    put(&mut members, alloc, "key", key)?;
-    let value = row_value_json(alloc, packages, &row.key, &row.value)?;
-    put(&mut members, alloc, "value", value)?;
+    put_row(alloc, packages, None, &row.key, &row.value, &mut members)?;
     Ok(Value::Object(members))
 }
 
@@ -253,7 +328,7 @@ fn put_said(
         ≡ with_content packages.now (content_of content.now) (members_view members.old.entries)) }
 {
     let (name, said) = match content {
-        Content::Value(value) => ("value", value_json(alloc, packages, value)?),
+        Content::Value(value) => ("value", value_json(alloc, packages, None, value)?),
         Content::Bag(rows) => ("bag", Value::Array(rows_json(alloc, packages, rows)?)),
         Content::Absent(label) => ("absent", label_json(alloc, packages, label)?),
         Content::TooManyReferences(label) => {

@@ -2,12 +2,14 @@
 
 ghost use Rattle.std.specs.Prelude.{◌≡◌, fold, IfOk, OnOk};
 ghost use Rattle.serde_json.specs.View.{view, members_view};
+ghost use Rattle.config_box.specs.config_record.Device.{device_coordinate};
 ghost use Rattle.reference_resolver.specs.config_precedence.config_record.DeviceSeen.{device_numbers};
-ghost use Rattle.resource_text.specs.DeviceJson.{with_number, device_data};
+ghost use Rattle.resource_text.specs.ConfigJson.{with_number_of};
+ghost use Rattle.resource_text.specs.DeviceJson.{device_data};
 
-use crate::config_json::put_locale;
+use crate::config_json::{put_locale, put_number};
 use bags_themes::{Coord, Device};
-use serde_json::{Map, Value, put};
+use serde_json::{Map, Value};
 use std::alloc::{AllocError, Global};
 
 /// A device, as a device file has it.
@@ -32,27 +34,10 @@ fn put_numbers(
     members: &mut Map<String, Value>,
 ) -> Result<(), AllocError>
     ensures { OnOk result (members_view members.new.entries
-        ≡ fold (with_number (device_numbers device.now)) (members_view members.old.entries) coords.now) }
+        ≡ fold (with_number_of (device_coordinate (device_numbers device.now))) (members_view members.old.entries) coords.now) }
 {
     for coord in coords {
-        put_number(alloc, device, *coord, members)?;
+        put_number(alloc, *coord, device.get(*coord), members)?;
     }
     Ok(())
-}
-
-#[tactic(auto, unfolding(crate::specs::DeviceJson::with_number))]
-fn put_number(
-    alloc: Global,
-    device: &Device,
-    coord: Coord,
-    members: &mut Map<String, Value>,
-) -> Result<(), AllocError>
-    ensures { OnOk result (members_view members.new.entries
-        ≡ with_number (device_numbers device.now) (members_view members.old.entries) coord) }
-{
-    let number = device.get(coord);
-    if number == 0 {
-        return Ok(());
-    }
-    put(members, alloc, coord.name(), Value::from(number))
 }

@@ -113,7 +113,7 @@ fn locales_json(alloc: Global, locales: &[Locale]) -> Result<Vec<Value>, AllocEr
 }
 
 /// The text of a locale; that of a device without one is empty.
-pub(crate) fn locale_json(alloc: Global, locale: Locale) -> Result<Value, AllocError>
+pub fn locale_json(alloc: Global, locale: Locale) -> Result<Value, AllocError>
     ensures { IfOk result (λ value. view value ≡ text_data (locale_text locale)) }
 {
     let mut text = Vec::new(alloc);

@@ -5,14 +5,15 @@ ghost use Rattle.std.specs.Option.{option_map};
 ghost use Rattle.serde_json.specs.View.{view, members_view};
 ghost use Rattle.reference_resolver.specs.config_precedence.config_record.DeviceSeen.{device_numbers};
 ghost use Rattle.answer_text.specs.overlay_map.Candidates.{cand_of};
+ghost use Rattle.config_box.specs.config_record.Record.{record_bytes};
 ghost use Rattle.contract_words.specs.Writes.{Writes};
-ghost use Rattle.resource_text.specs.EndJson.{place_data, with_end, with_origin, end_data, with_end_at, end_json, ends_json};
+ghost use Rattle.resource_text.specs.EndJson.{place_data, with_end, with_origin, end_data, end_data_within, with_end_at, end_json, ends_json};
 
 use crate::config_json::config_json;
 use crate::last::last_within;
 use crate::line_json::{line_members, write_line, write_set_aside_json};
 use crate::naming::Naming;
-use bags_themes::{Cand, Device, End, REFERENCES_FOLLOWED, ResId};
+use bags_themes::{Cand, Device, End, REFERENCES_FOLLOWED, Record, ResId};
 use command_base::{LocaleRule, rows_set_aside};
 use serde_json::{Map, Value, put};
 use std::alloc::AllocError;
@@ -77,9 +78,22 @@ pub(crate) fn put_end_at(
     ensures { OnOk result (members_view members.new.entries
         ≡ with_end_at naming.now (device_numbers device.now) id.0 (members_view members.old.entries)) }
 {
-    let last = last_within(naming.stack(), id, device, REFERENCES_FOLLOWED);
-    let end = end_json(naming, &last.selected, last.end)?;
+    let end = end_within_json(naming, device, id, REFERENCES_FOLLOWED)?;
     put(members, naming.alloc(), "end", end)
+}
+
+/// Where an id ends for a device, where at most so many references are followed.
+#[tactic(auto, unfolding(crate::specs::EndJson::end_data_within))]
+pub(crate) fn end_within_json(
+    naming: &Naming<'_, '_, '_>,
+    device: &Device,
+    id: ResId,
+    most: u8,
+) -> Result<Value, AllocError>
+    ensures { IfOk result (λ json. view json ≡ end_data_within naming.now most (device_numbers device.now) id.0) }
+{
+    let last = last_within(naming.stack(), id, device, most);
+    end_json(naming, &last.selected, last.end)
 }
 
 /// An end, with the row that was selected last, where a value or a bag is of it.
@@ -111,9 +125,9 @@ pub(crate) fn put_end(
 {
     let (name, said) = match end {
         End::Value { layer, value } => ("value", naming.value_json(layer, value)?),
-        End::Bag { id } => ("bag", naming.name_json(id)?),
-        End::Absent { id } => ("absent", naming.name_json(id)?),
-        End::TooLong { id } => ("tooManyReferences", naming.name_json(id)?),
+        End::Bag { id } => ("bag", naming.resource_json(id)?),
+        End::Absent { id } => ("absent", naming.resource_json(id)?),
+        End::TooLong { id } => ("tooManyReferences", naming.resource_json(id)?),
     };
     put(members, naming.alloc(), name, said)
 }
@@ -134,7 +148,7 @@ fn put_origin(
     if !is_of_it {
         return Ok(());
     }
-    let place = place_json(naming, candidate)?;
+    let place = place_json(naming, candidate.layer, &candidate.row.config)?;
     put(members, naming.alloc(), "from", place)
 }
 
@@ -142,13 +156,14 @@ fn put_origin(
 #[tactic(auto, unfolding(crate::specs::EndJson::place_data))]
 pub(crate) fn place_json(
     naming: &Naming<'_, '_, '_>,
-    candidate: &Cand<'_>,
+    layer: usize,
+    config: &Record<'_>,
 ) -> Result<Value, AllocError>
-    ensures { IfOk result (λ json. view json ≡ place_data naming.now (cand_of candidate.now)) }
+    ensures { IfOk result (λ json. view json ≡ place_data naming.now layer (record_bytes config.now)) }
 {
     let mut members = Map::new(naming.alloc());
-    let config = config_json(naming.alloc(), &candidate.row.config)?;
+    let config = config_json(naming.alloc(), config)?;
     put(&mut members, naming.alloc(), "config", config)?;
-    naming.put_layer(candidate.layer, &mut members)?;
+    naming.put_layer(layer, &mut members)?;
     Ok(Value::Object(members))
 }

@@ -7,7 +7,7 @@ ghost use Rattle.serde_json.specs.View.{view, members_view};
 ghost use Rattle.reference_resolver.specs.config_precedence.config_record.DeviceSeen.{device_numbers};
 ghost use Rattle.reference_resolver.specs.Trace.{look_ups_of};
 ghost use Rattle.res_value.specs.Cell.{cell_of};
-ghost use Rattle.resource_text.specs.ExplainJson.{did, with_reason, with_rule, decision_data, held, candidate_json, look_up_json, explain_json};
+ghost use Rattle.resource_text.specs.ExplainJson.{did, with_did, with_reason, with_rule, decision_data, held, candidate_json, look_up_json, explain_json};
 ghost use Rattle.resource_text.specs.TracedSeen.{traced_of};
 
 use crate::decision_words::write_decision;
@@ -125,7 +125,7 @@ fn write_candidate<W: Write + Drop>(
     let mut members = line_members(alloc, "candidate")?;
     let decision = decision_json(alloc, traced.decision)?;
     put(&mut members, alloc, "decision", decision)?;
-    let place = place_json(naming, candidate)?;
+    let place = place_json(naming, candidate.layer, &candidate.row.config)?;
     put(&mut members, alloc, "from", place)?;
     let held = end_json(naming, &None, held(id, candidate.layer, candidate.row.cell))?;
     put(&mut members, alloc, "holds", held)?;
@@ -154,11 +154,24 @@ fn decision_json(alloc: Global, decision: Decision) -> Result<Value, AllocError>
         return Err(AllocError);
     };
     let mut members = Map::new(alloc);
-    let did = Value::try_from_str(alloc, did(decision))?;
-    put(&mut members, alloc, "did", did)?;
     put_reason(alloc, decision, &mut members)?;
-    put(&mut members, alloc, "words", text_json(alloc, &words)?)?;
+    put_did(alloc, did(decision), &words, &mut members)?;
     Ok(Value::Object(members))
+}
+
+/// Puts what is done, and all of it in words.
+#[tactic(auto, unfolding(crate::specs::ExplainJson::with_did))]
+pub(crate) fn put_did(
+    alloc: Global,
+    did: &str,
+    words: &[u8],
+    members: &mut Map<String, Value>,
+) -> Result<(), AllocError>
+    ensures { OnOk result (members_view members.new.entries ≡ with_did did.now words.now (members_view members.old.entries)) }
+{
+    let did = Value::try_from_str(alloc, did)?;
+    put(members, alloc, "did", did)?;
+    put(members, alloc, "words", text_json(alloc, words)?)
 }
 
 #[tactic(auto, unfolding(crate::specs::ExplainJson::did))]

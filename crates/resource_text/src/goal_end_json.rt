@@ -57,7 +57,5 @@ fn put_layer_of(
     let End::Value { layer, .. } = end else {
         return Ok(());
     };
-    let mut row = Map::new(naming.alloc());
-    naming.put_layer(layer, &mut row)?;
-    put(members, naming.alloc(), "from", Value::Object(row))
+    naming.put_from_layer(layer, members)
 }

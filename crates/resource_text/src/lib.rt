@@ -4,7 +4,8 @@
 //! For the crates above: each text is the one that `specs/` defines of its value. What is written straight to a writer, such as a
 //! verdict, appends this text and nothing else, and the only error is the writer's. An answer in Android's notation is made in
 //! memory, so that where that runs out nothing of it is written; `change_block` gives the lines that stand behind the name of a
-//! resource, for people in either form, or the text of a JSON object. Ends, explanations, the rows of bags and verdicts are also given as lines of JSON.
+//! resource, for people in either form, or the text of a JSON object. Ends, explanations, the rows of bags, verdicts and the rows
+//! that no device loads are also given as lines of JSON.
 //!
 //! ```text
 //! let naming = Naming::of(alloc, &stack, &paths)?;
@@ -45,6 +46,8 @@ mod lone_table;
 mod look_ups;
 mod naming;
 mod rejection;
+mod rejection_notation;
+mod row_json;
 mod rows;
 mod rows_behind;
 mod table_row;
@@ -63,16 +66,19 @@ pub use cert_maker::{
 };
 pub use command_base::{LayersFault, Side, ToolFault, fault_text};
 pub use content_json::name_json;
+pub use devices_json::locale_json;
 pub use dump::dump_in_notation;
 pub use end_json::ends_json;
 pub use ends::ends_text;
 pub use explanation::explain_text;
 pub use explanation_json::explain_json;
 pub use line_form::LineForm;
-pub use line_json::write_set_aside_json;
-pub use naming::Naming;
+pub use line_json::{line_members, write_line, write_set_aside_json};
+pub use naming::{Naming, put_layer};
 pub use rejection::{Rejection, write_rejections_in, write_set_aside_in, write_verdict_in};
+pub use row_json::write_row_json;
 pub use rows::rows_in_notation;
 pub use table_row::write_row_end;
+pub use text_json::{id_json, text_json as text_value};
 pub use verdict::{device_with_end, verdict_text};
 pub use whole_bag::bag_text;

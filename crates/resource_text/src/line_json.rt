@@ -11,7 +11,7 @@ use std::alloc::{AllocError, Global};
 use std::io::{self, Write};
 
 /// What the line of a kind begins with: what kind it is.
-pub(crate) fn line_members(alloc: Global, kind: &str) -> Result<Map<String, Value>, AllocError>
+pub fn line_members(alloc: Global, kind: &str) -> Result<Map<String, Value>, AllocError>
     ensures { IfOk result (λ members. members_view members.entries ≡ line_members kind.now) }
 {
     let mut members = Map::new(alloc);
@@ -21,7 +21,7 @@ pub(crate) fn line_members(alloc: Global, kind: &str) -> Result<Map<String, Valu
 }
 
 /// Writes the line with these members.
-pub(crate) fn write_line<W: Write + Drop>(
+pub fn write_line<W: Write + Drop>(
     alloc: Global,
     members: Map<String, Value>,
     out: &mut W,

@@ -1,12 +1,14 @@
 //! What stands in answers for ids, values and layers.
 
-ghost use Rattle.std.specs.Prelude.{◌≡◌};
+ghost use Rattle.std.specs.Prelude.{◌≡◌, map, string_bytes, OnOk};
 ghost use Rattle.std.specs.List.{list_all};
 ghost use Rattle.std.specs.Char.{is_ascii_graphic};
 ghost use Rattle.contract_words.specs.Writes.{Writes};
+ghost use Rattle.serde_json.specs.View.{members_view};
+ghost use Rattle.resource_text.specs.EndJson.{with_layer_at};
 ghost use Rattle.resource_text.specs.Naming.{path_notation};
 
-use crate::content_json::{key_json, row_value_json, value_json};
+use crate::content_json::{put_row, value_json};
 use crate::text_json::text_json;
 use answer_text::{
     BagRow, Keys, ResId, RowKey, Stack, Value, value_content, write_id, write_key_notation,
@@ -40,12 +42,14 @@ impl<'s, 'a, 'p> Model for Naming<'s, 'a, 'p> {
 }
 
 impl<'s, 'a, 'p> Naming<'s, 'a, 'p> {
-    ghost use Rattle.std.specs.Prelude.{◌≡◌, map, string_bytes, IfOk, OnOk};
+    ghost use Rattle.std.specs.Prelude.{◌≡◌, map, string_bytes, IfOk, OnOk, Some};
     ghost use Rattle.contract_words.specs.Writes.{Writes};
     ghost use Rattle.serde_json.specs.View.{view, members_view};
-    ghost use Rattle.resource_text.specs.BagJson.{with_key_and_value, with_row_at};
-    ghost use Rattle.resource_text.specs.EndJson.{name_data, with_id, value_data_at, with_layer};
+    ghost use Rattle.resource_text.specs.BagJson.{with_row_at};
+    ghost use Rattle.resource_text.specs.ContentJson.{with_row};
+    ghost use Rattle.resource_text.specs.EndJson.{name_data, with_id, resource_data, value_data_at, with_layer, with_from_layer};
     ghost use Rattle.resource_text.specs.Naming.{id_notation, value_at, key_and_value, row_at, layer_notation};
+    ghost use Rattle.names.specs.NamedIds.{packages_of};
     ghost use Rattle.answer_text.specs.ContentSeen.{row_key_of};
     ghost use Rattle.answer_text.specs.ValueContent.{value_content};
 
@@ -153,8 +157,8 @@ impl<'s, 'a, 'p> Naming<'s, 'a, 'p> {
 
     // ---- as JSON
 
-    /// What an id is called.
-    pub(crate) fn name_json(&self, id: ResId) -> Result<serde_json::Value, AllocError>
+    // What an id is called.
+    fn name_json(&self, id: ResId) -> Result<serde_json::Value, AllocError>
         ensures { IfOk result (λ name. view name ≡ name_data self.now id.0) }
     {
         let mut text = Vec::new(self.alloc);
@@ -184,6 +188,16 @@ impl<'s, 'a, 'p> Naming<'s, 'a, 'p> {
         put(members, self.alloc, "name", name)
     }
 
+    /// An id with what it is called.
+    #[tactic(auto, unfolding(crate::specs::EndJson::resource_data))]
+    pub(crate) fn resource_json(&self, id: ResId) -> Result<serde_json::Value, AllocError>
+        ensures { IfOk result (λ json. view json ≡ resource_data self.now id.0) }
+    {
+        let mut members = Map::new(self.alloc);
+        self.put_id(id, &mut members)?;
+        Ok(serde_json::Value::Object(members))
+    }
+
     /// What a value says that a row of the layer at a place holds.
     #[tactic(auto, unfolding(crate::specs::EndJson::value_data_at))]
     pub(crate) fn value_json(
@@ -194,13 +208,12 @@ impl<'s, 'a, 'p> Naming<'s, 'a, 'p> {
         ensures { IfOk result (λ json. view json ≡ value_data_at self.now layer value) }
     {
         let content = value_content(self.alloc, &self.stack, layer, value)?;
-        let json = value_json(self.alloc, &self.packages, &content);
+        let json = value_json(self.alloc, &self.packages, Some(value), &content);
         drop(content);
         json
     }
 
     /// Puts the layer at a place, and the path of its table, where it has one.
-    #[tactic(auto, unfolding(crate::specs::EndJson::with_layer))]
     pub(crate) fn put_layer(
         &self,
         place: usize,
@@ -208,12 +221,26 @@ impl<'s, 'a, 'p> Naming<'s, 'a, 'p> {
     ) -> Result<(), AllocError>
         ensures { OnOk result (members_view members.new.entries ≡ with_layer self.now place (members_view members.old.entries)) }
     {
-        put(members, self.alloc, "layer", serde_json::Value::from(place))?;
-        let Some(path) = self.paths.get(place) else {
-            return Ok(());
-        };
-        let path = serde_json::Value::try_from_str(self.alloc, path.as_str())?;
-        put(members, self.alloc, "path", path)
+        put_layer(self.alloc, self.paths, place, members)
+    }
+
+    /// Puts the layer at a place where no row is told.
+    #[tactic(auto, unfolding(crate::specs::EndJson::with_from_layer))]
+    pub(crate) fn put_from_layer(
+        &self,
+        place: usize,
+        members: &mut Map<String, serde_json::Value>,
+    ) -> Result<(), AllocError>
+        ensures { OnOk result (members_view members.new.entries ≡ with_from_layer self.now place (members_view members.old.entries)) }
+    {
+        let mut layer = Map::new(self.alloc);
+        self.put_layer(place, &mut layer)?;
+        put(
+            members,
+            self.alloc,
+            "from",
+            serde_json::Value::Object(layer),
+        )
     }
 
     /// Puts what tells the row of a bag at a place from the others, and what it says.
@@ -233,23 +260,39 @@ impl<'s, 'a, 'p> Naming<'s, 'a, 'p> {
         put
     }
 
-    #[tactic(auto, unfolding(crate::specs::BagJson::with_key_and_value))]
     fn put_key_and_value(
         &self,
         key: &RowKey<'_>,
         row: BagRow,
         members: &mut Map<String, serde_json::Value>,
     ) -> Result<(), AllocError>
-        ensures { OnOk result (members_view members.new.entries ≡ with_key_and_value self.now (row_key_of key.now)
+        ensures { OnOk result (members_view members.new.entries ≡ with_row (packages_of self.now.stack) (Some row.value) (row_key_of key.now)
             (value_content self.now.stack row.layer row.value) (members_view members.old.entries)) }
     {
-        let said = key_json(self.alloc, &self.packages, key)?;
-        put(members, self.alloc, "key", said)?;
         let value = value_content(self.alloc, &self.stack, row.layer, row.value)?;
-        let json = row_value_json(self.alloc, &self.packages, key, &value);
+        let stored = Some(row.value);
+        let put = put_row(self.alloc, &self.packages, stored, key, &value, members);
         drop(value);
-        put(members, self.alloc, "value", json?)
+        put
     }
+}
+
+/// Puts the layer at a place, and the path of its table, where it has one of these.
+#[tactic(auto, unfolding(crate::specs::EndJson::with_layer_at))]
+pub fn put_layer(
+    alloc: Global,
+    paths: &[String],
+    place: usize,
+    members: &mut Map<String, serde_json::Value>,
+) -> Result<(), AllocError>
+    ensures { OnOk result (members_view members.new.entries ≡ with_layer_at (map string_bytes paths.now) place (members_view members.old.entries)) }
+{
+    put(members, alloc, "layer", serde_json::Value::from(place))?;
+    let Some(path) = paths.get(place) else {
+        return Ok(());
+    };
+    let path = serde_json::Value::try_from_str(alloc, path.as_str())?;
+    put(members, alloc, "path", path)
 }
 
 #[tactic(auto, unfolding(crate::specs::Naming::path_notation))]

@@ -6,18 +6,18 @@ ghost use Rattle.std.specs.Option.{option_map};
 ghost use Rattle.contract_words.specs.Writes.{Writes};
 ghost use Rattle.serde_json.specs.View.{view, members_view};
 ghost use Rattle.cert_maker.specs.cert_checker.Rule.{number_of};
-ghost use Rattle.cert_maker.specs.res_value.Goal.{goal_seen};
+ghost use Rattle.cert_maker.specs.res_value.Goal.{AttrGoal, goal_seen};
 ghost use Rattle.command_base.specs.answer_text.config_record.DeviceSeen.{device_numbers};
-ghost use Rattle.resource_text.specs.GoalNotation.{goal_notation};
+ghost use Rattle.resource_text.specs.EndJson.{resource_data};
 ghost use Rattle.resource_text.specs.TextJson.{text_data};
-ghost use Rattle.resource_text.specs.VerdictJson.{accepted_json, failed_json, shown_device_data, shown_data, with_fault, with_claimed, with_goal, rejected_json, rejection_json};
+ghost use Rattle.resource_text.specs.VerdictJson.{accepted_json, failed_json, goal_data, shown_device_data, shown_data, with_fault, claim_shown, with_claimed, with_goal, rejected_json, rejection_json};
 
 use crate::device_json::device_json;
-use crate::goal::write_goal;
 use crate::goal_end_json::{put_goal_end, slot_end_json};
 use crate::line_json::{line_members, write_line};
 use crate::naming::Naming;
 use crate::text_json::text_json;
+use bags_themes::ResId;
 use cert_maker::{Goal, Rule, Shown, Verdict};
 use command_base::{Device, End};
 use serde_json::{Map, Value, put};
@@ -99,8 +99,7 @@ fn write_rejected<W: Write + Drop>(
 {
     let mut members = line_members(naming.alloc(), "rejected")?;
     put_fault(naming.alloc(), goal, node, rule, &mut members)?;
-    put_claimed(naming, claimed, &mut members)?;
-    put_goal(naming, asked, shown, &mut members)?;
+    put_goal(naming, asked, claimed, shown, &mut members)?;
     write_line(naming.alloc(), members, out)
 }
 
@@ -114,7 +113,7 @@ fn put_fault(
 ) -> Result<(), AllocError>
     ensures { OnOk result (members_view members.new.entries ≡ with_fault goal node rule (members_view members.old.entries)) }
 {
-    put(members, alloc, "goal", Value::from(goal))?;
+    put(members, alloc, "place", Value::from(goal))?;
     put(members, alloc, "node", Value::from(node))?;
     put(members, alloc, "rule", rule_json(alloc, rule)?)?;
     let name = text_json(alloc, rule.name().as_bytes())?;
@@ -130,6 +129,16 @@ fn rule_json(alloc: Global, rule: Rule) -> Result<Value, AllocError>
         Ok(()) => text_json(alloc, &text),
         // To a `Vec` only a want of memory is a fault.
         Err(_) => Err(AllocError),
+    }
+}
+
+// What the node says, if it is a leaf of which devices show something.
+fn claim_shown(shown: &Shown, claimed: Option<End>) -> Option<End>
+    ensures { result ≡ claim_shown shown.now claimed }
+{
+    match shown {
+        Shown::Nothing => None,
+        Shown::Two(..) | Shown::One(..) => claimed,
     }
 }
 
@@ -156,29 +165,58 @@ fn put_claimed(
 fn put_goal(
     naming: &Naming<'_, '_, '_>,
     goal: Option<&Goal>,
+    claimed: Option<End>,
     shown: &Shown,
     members: &mut Map<String, Value>,
 ) -> Result<(), AllocError>
     ensures { OnOk result (members_view members.new.entries
-        ≡ with_goal naming.now (option_map (λ goal. goal_seen goal.now) goal.entry) shown.now (members_view members.old.entries)) }
+        ≡ with_goal naming.now (option_map (λ goal. goal_seen goal.now) goal.entry) claimed shown.now (members_view members.old.entries)) }
 {
     let Some(goal) = goal else {
         return Ok(());
     };
-    put(members, naming.alloc(), "name", goal_json(naming, goal)?)?;
+    put(members, naming.alloc(), "goal", goal_json(naming, goal)?)?;
+    put_claimed(naming, claim_shown(shown, claimed), members)?;
     let devices = shown_json(naming, goal, shown)?;
     put(members, naming.alloc(), "devices", Value::Array(devices))
 }
 
+// ---- goals
+
+#[tactic(auto, unfolding(crate::specs::VerdictJson::goal_data))]
 fn goal_json(naming: &Naming<'_, '_, '_>, goal: &Goal) -> Result<Value, AllocError>
-    ensures { IfOk result (λ name. view name ≡ text_data (goal_notation naming.now (goal_seen goal.now))) }
+    ensures { IfOk result (λ json. view json ≡ goal_data naming.now (goal_seen goal.now)) }
 {
-    let mut text = Vec::new(naming.alloc());
-    match write_goal(naming, goal, &mut text) {
-        Ok(()) => text_json(naming.alloc(), &text),
-        // To a `Vec` only a want of memory is a fault.
-        Err(_) => Err(AllocError),
+    match goal {
+        Goal::Id(id) => naming.resource_json(*id),
+        Goal::Attr { attr, styles } => attribute_json(naming, *attr, styles),
     }
+}
+
+#[tactic(auto, unfolding(crate::specs::VerdictJson::goal_data))]
+fn attribute_json(
+    naming: &Naming<'_, '_, '_>,
+    attr: ResId,
+    styles: &[ResId],
+) -> Result<Value, AllocError>
+    ensures { IfOk result (λ json. view json ≡ goal_data naming.now (AttrGoal attr styles.now)) }
+{
+    let mut members = Map::new(naming.alloc());
+    naming.put_id(attr, &mut members)?;
+    let styles = resources_json(naming, styles)?;
+    put(&mut members, naming.alloc(), "styles", Value::Array(styles))?;
+    Ok(Value::Object(members))
+}
+
+fn resources_json(naming: &Naming<'_, '_, '_>, ids: &[ResId]) -> Result<Vec<Value>, AllocError>
+    ensures { IfOk result (λ values. map view values.items ≡ map (λ id. resource_data naming.now id.0) ids.now) }
+{
+    let mut values = Vec::with_capacity(naming.alloc(), ids.len())?;
+    for id in ids {
+        let value = naming.resource_json(*id)?;
+        values.push(value)?;
+    }
+    Ok(values)
 }
 
 // ---- the devices that show it

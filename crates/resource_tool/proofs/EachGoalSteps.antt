@@ -19,7 +19,7 @@ use Rattle.resource_text.specs.cert_maker.cert_checker.Shown.{ShowsAt}
 use Rattle.resource_text.specs.cert_maker.cert_checker.Verdict.{IsVerdict}
 use Rattle.cert_checker.proofs.GoalSteps.{ArePassed, rejected}
 use Rattle.resource_text.specs.declared.rejection.Rejection.{Rejection}
-use Rattle.resource_text.specs.RejectionNotation.{claim_in, rejection_of}
+use Rattle.resource_text.specs.VerdictForms.{claim_in, rejection_of}
 use Rattle.resource_tool.specs.EachGoal.{IsGoalVerdict, AreRejections, AreAllRejections, IsWith, at_place, goes_on, rejection_at}
 
 -- ---- one goal

@@ -13,7 +13,8 @@ use Rattle.command_base.specs.Output.{Output}
 use Rattle.resource_text.specs.cert_maker.cert_tree.Certificate.{GoalOf}
 use Rattle.resource_text.specs.cert_maker.res_value.Goal.{GoalSeen}
 use Rattle.resource_text.specs.Naming.{NamingOf}
-use Rattle.resource_text.specs.RejectionNotation.{claim_at, rejected_notation, rejection_notation, set_aside_in, shown_of, verdict_in}
+use Rattle.resource_text.specs.RejectionNotation.{rejected_notation, rejection_notation, shown_of}
+use Rattle.resource_text.specs.VerdictForms.{claim_at, set_aside_in, verdict_in}
 use Rattle.resource_text.specs.VerdictJson.{rejected_json, rejection_json}
 use Rattle.resource_text.specs.declared.line_form.LineForm.{LineForm}
 use Rattle.resource_text.specs.declared.line_form.LineForm.TheVariants.{Text, Json}

@@ -11,6 +11,7 @@ use Rattle.command_base.specs.StackBytes.{LayerBytes}
 use Rattle.resource_tool.specs.declared.survey.finding.Finding.{Finding}
 use Rattle.resource_tool.specs.declared.survey.finding.Finding.TheVariants.{DynamicReference, DynamicAttribute, BrokenString, SetAside, Locale, BoxLocale}
 use Rattle.resource_tool.specs.declared.survey.findings.Findings.{Findings}
+use Rattle.resource_tool.specs.declared.survey.findings.Tally.{Tally}
 use Rattle.resource_tool.specs.Finding.{differs}
 use Rattle.resource_tool.specs.Findings.{Note, nothing_found, noted, tally_in}
 use Rattle.resource_tool.specs.Counted.{notes_with, tally_of, some_differs, Counts}
@@ -20,7 +21,6 @@ use Rattle.resource_tool.proofs.CountedSteps.{noted-counts}
 use Rattle.resource_tool.proofs.DiffersSteps.{some-both, some-flat_map, some-if, none-if, differs-of_chunks}
 use Rattle.resource_tool.specs.RowNotes.{has_broken, has_kind, values_differ, dynamic_reference, dynamic_attribute, is_for_other_locales, is_for_one_of, note_row_if, notes_of_values, notes_of_locale, notes_of_row, locale_differs, row_differs}
 use Rattle.resource_tool.specs.LayerNotes.{notes_of_rows, rows_at, strings_at, notes_of_layer, layer_differs}
-use Rattle.resource_tool.specs.SurveyText.{found_line}
 
 differs-of_values : (strings : PoolOf) (row : RowOf) → some_differs (notes_of_values strings row) ≡ values_differ strings row.cell
 unfolding notes_of_values differs
@@ -69,9 +69,9 @@ pub layer-tells : (rule : LocaleRule) (stack : List LayerOf) (locales : List ℕ
 layer-tells rule stack locales numbered findings counts = counts.differs ∙ differs-of_layer rule stack locales numbered
 
 -- the lines of findings are those of their notes
-pub lines-of_notes : (layer : ℕ) (findings : Findings) (notes : List Note) (kinds : List Finding) → Counts findings notes
-    → flat_map (λ finding. found_line layer finding (tally_in findings finding)) kinds ≡ flat_map (λ finding. found_line layer finding (tally_of (notes_with finding notes))) kinds
-lines-of_notes layer findings notes [] counts = refl
-lines-of_notes layer findings notes (finding ∷ kinds) counts =
-    ap (λ t. found_line layer finding t ++ flat_map (λ f. found_line layer f (tally_in findings f)) kinds) (counts.tallies finding)
-    ∙ ap (λ (text : List ℕ). found_line layer finding (tally_of (notes_with finding notes)) ++ text) (lines-of_notes layer findings notes kinds counts)
+pub lines-of_notes : (line : Finding → Tally → List ℕ) (findings : Findings) (notes : List Note) (kinds : List Finding) → Counts findings notes
+    → flat_map (λ finding. line finding (tally_in findings finding)) kinds ≡ flat_map (λ finding. line finding (tally_of (notes_with finding notes))) kinds
+lines-of_notes line findings notes [] counts = refl
+lines-of_notes line findings notes (finding ∷ kinds) counts =
+    ap (λ t. line finding t ++ flat_map (λ f. line f (tally_in findings f)) kinds) (counts.tallies finding)
+    ∙ ap (λ (text : List ℕ). line finding (tally_of (notes_with finding notes)) ++ text) (lines-of_notes line findings notes kinds counts)

@@ -1,4 +1,6 @@
 pub mod Answering
+pub mod AloneSteps
+pub mod NoFloats
 pub mod Written
 pub mod Unprinted
 pub mod QuerySteps
@@ -14,6 +16,7 @@ pub mod OmitSteps
 pub mod ToldAnswers
 pub mod KeptStreams
 pub mod AnySteps
+pub mod Got
 pub mod ToldSteps
 pub mod LayerLaws
 pub mod WarningSteps

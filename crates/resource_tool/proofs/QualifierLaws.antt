@@ -15,7 +15,6 @@ use Rattle.command_base.specs.overlay_map.Table.{rows_of}
 use Rattle.command_base.specs.overlay_map.Layer.{LayerOf}
 use Rattle.resource_tool.specs.declared.survey.qualifiers.Qualifiers.{Qualifiers}
 use Rattle.resource_tool.specs.declared.survey.qualifiers.Spread.{Spread}
-use Rattle.resource_tool.specs.SurveyText.{qualifier_line}
 use Rattle.resource_tool.specs.Qualifiers.{rows_in_stack, numbers_at, least_of, greatest_of, no_spread, spread_of}
 use Rattle.resource_tool.specs.Counting.{and_number, spread_in, no_qualifiers, Said, with_number, counted, said_by, said_by_layer}
 
@@ -211,9 +210,9 @@ spread-of_stack stack c =
     ∙ spread-of_numbers (map (of_row c) (rows_in_stack stack))
 
 -- the lines of spreads are those of what they are
-pub lines-of_spreads : (qualifiers : Qualifiers) (spreads : Coord → Spread) (cs : List Coord) → ((c : Coord) → spread_in qualifiers c ≡ spreads c)
-    → flat_map (λ c. qualifier_line c (spread_in qualifiers c)) cs ≡ flat_map (λ c. qualifier_line c (spreads c)) cs
-lines-of_spreads qualifiers spreads [] same = refl
-lines-of_spreads qualifiers spreads (c ∷ cs) same =
-    ap (λ (s : Spread). qualifier_line c s ++ flat_map (λ k. qualifier_line k (spread_in qualifiers k)) cs) (same c)
-    ∙ ap (λ (text : List ℕ). qualifier_line c (spreads c) ++ text) (lines-of_spreads qualifiers spreads cs same)
+pub lines-of_spreads : (line : Coord → Spread → List ℕ) (qualifiers : Qualifiers) (spreads : Coord → Spread) (cs : List Coord) → ((c : Coord) → spread_in qualifiers c ≡ spreads c)
+    → flat_map (λ c. line c (spread_in qualifiers c)) cs ≡ flat_map (λ c. line c (spreads c)) cs
+lines-of_spreads line qualifiers spreads [] same = refl
+lines-of_spreads line qualifiers spreads (c ∷ cs) same =
+    ap (λ (s : Spread). line c s ++ flat_map (λ k. line k (spread_in qualifiers k)) cs) (same c)
+    ∙ ap (λ (text : List ℕ). line c (spreads c) ++ text) (lines-of_spreads line qualifiers spreads cs same)

@@ -1,6 +1,7 @@
 -- What the command `bag` prints, and what its words ask.
-use Rattle.std.specs.Prelude.{ℕ, Bool, false, List, [], ◌∷◌, ◌++◌, codes, Option, Result, Ok, Err}
+use Rattle.std.specs.Prelude.{ℕ, Bool, false, List, [], ◌∷◌, ◌++◌, codes, Option, Some, None, Result, Ok, Err}
 use Rattle.std.specs.List.{flat_map}
+use Rattle.std.specs.Option.{option_map_or}
 use Rattle.contract_words.specs.Faults.{◌>>=◌}
 use Rattle.command_base.specs.overlay_map.Layer.{LayerOf}
 use Rattle.command_base.specs.answer_text.NameText.{name_beside}
@@ -39,19 +40,19 @@ id_and_layer stack names id layer = id_text id ++ name_beside stack id names ++ 
 unfoldable pub bag_row_line : List LayerOf → Bool → BagRow → List ℕ
 bag_row_line stack names row = id_and_layer stack names row.name.0 row.layer ++ codes " " ++ value_text row.value ++ 10 ∷ []
 
+-- why there is no bag; want of memory is the command's own fault and has no name
+abbrev pub reason_of : BagFault → Option (List ℕ)
+reason_of of_bag.Absent = Some (codes "Absent")
+reason_of of_bag.Plain = Some (codes "Plain")
+reason_of of_bag.BagDepth = Some (codes "BagDepth")
+reason_of of_bag.OutOfMemory = None
+
 -- the line `no bag FAULT`
 unfoldable pub no_bag_line : List ℕ → List ℕ
 no_bag_line fault = codes "no bag " ++ fault ++ 10 ∷ []
 
--- why there is no bag; want of memory is the command's own fault and has no line
-abbrev pub reason_of : BagFault → List ℕ
-reason_of of_bag.Absent = no_bag_line (codes "Absent")
-reason_of of_bag.Plain = no_bag_line (codes "Plain")
-reason_of of_bag.BagDepth = no_bag_line (codes "BagDepth")
-reason_of of_bag.OutOfMemory = []
-
 abbrev pub no_bag : BagFault → Output
-no_bag fault = record { status = Negative; text = reason_of fault }
+no_bag fault = record { status = Negative; text = option_map_or no_bag_line (reason_of fault) [] }
 
 -- a line for each row, or why there are none
 abbrev pub rows_or_reason : List LayerOf → Bool → Result (List BagRow) BagFault → Output
@@ -77,14 +78,8 @@ bag_in_notation asked paths id = told_or_reason (record { stack = asked.stack; p
 unfoldable pub no_bag_json_line : List ℕ → List ℕ
 no_bag_json_line fault = codes "{\"fault\":\"" ++ fault ++ codes "\",\"line\":\"no bag\"}" ++ 10 ∷ []
 
-abbrev pub json_of_reason : BagFault → List ℕ
-json_of_reason of_bag.Absent = no_bag_json_line (codes "Absent")
-json_of_reason of_bag.Plain = no_bag_json_line (codes "Plain")
-json_of_reason of_bag.BagDepth = no_bag_json_line (codes "BagDepth")
-json_of_reason of_bag.OutOfMemory = []
-
 abbrev pub no_bag_json : BagFault → Output
-no_bag_json fault = record { status = Negative; text = json_of_reason fault }
+no_bag_json fault = record { status = Negative; text = option_map_or no_bag_json_line (reason_of fault) [] }
 
 abbrev pub json_or_reason : NamingOf → ℕ → Result (List BagRow) BagFault → Output
 json_or_reason naming id (Ok rows) = record { status = Done; text = rows_json naming id rows }

@@ -27,18 +27,24 @@ box_files places layers_path box_path = do
   box_json ← file_of places box_path
   Ok (record { layers = layers; paths = paths_of_layers places layers_path; box_json = box_json })
 
--- the bytes of layers and of a box, and the words of goals or resources
+-- the bytes of layers, with the paths of their tables, and of a box, and the words of goals or resources
 pub record AskedBoxBytes : Type 0 where
   pub layers : List LayerBytes
+  pub paths : List (List ℕ)
   pub box_json : List ℕ
   pub words : List (List ℕ)
 
 abbrev pub asked_box_held : AskedBoxFiles → AskedBoxBytes
-asked_box_held files = record { layers = layers_held files.layers; box_json = files.box_json.items; words = strings_held files.words }
+asked_box_held files = record {
+  layers = layers_held files.layers;
+  paths = paths_held files.layers;
+  box_json = files.box_json.items;
+  words = strings_held files.words;
+}
 
 -- layers, the box, and then the files of words
 unfoldable pub asked_box_files : Places → List ℕ → List ℕ → List (List ℕ) → Result AskedBoxBytes StopOf
 asked_box_files places layers_path box_path words = do
   files ← box_files places layers_path box_path
   words ← joined_each (words_at places) words
-  Ok (record { layers = files.layers; box_json = files.box_json; words = words })
+  Ok (record { layers = files.layers; paths = files.paths; box_json = files.box_json; words = words })

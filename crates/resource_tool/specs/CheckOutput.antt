@@ -21,7 +21,7 @@ use Rattle.resource_text.specs.notation.declared.form.Form.TheVariants.{Raw, And
 use Rattle.resource_text.specs.declared.line_form.LineForm.{LineForm}
 use Rattle.resource_text.specs.declared.line_form.LineForm.TheVariants.{Text, Json}
 use Rattle.resource_text.specs.declared.rejection.Rejection.{Rejection}
-use Rattle.resource_text.specs.RejectionNotation.{rejections_in, set_aside_in, verdict_in}
+use Rattle.resource_text.specs.VerdictForms.{rejections_in, set_aside_in, verdict_in}
 use Rattle.resource_text.specs.VerdictText.{verdict_text}
 use Rattle.resource_text.specs.Naming.{NamingOf}
 use Rattle.command_base.specs.declared.status.Status.{Status}

@@ -9,7 +9,7 @@ use Rattle.resource_text.specs.cert_maker.cert_checker.declared.verdict.Verdict.
 use Rattle.resource_text.specs.cert_maker.cert_checker.declared.verdict.Verdict.TheVariants.{Accepted, Rejected}
 use Rattle.resource_text.specs.cert_maker.cert_checker.Verdict.{IsVerdict}
 use Rattle.resource_text.specs.declared.rejection.Rejection.{Rejection}
-use Rattle.resource_text.specs.RejectionNotation.{claim_at, rejection_of}
+use Rattle.resource_text.specs.VerdictForms.{claim_at, rejection_of}
 
 -- the verdict on a goal: that on the certificate which has its tree alone, for it alone
 abbrev pub IsGoalVerdict : List LayerOf → List SetOf → GoalOf → Verdict → Type 0

@@ -1,4 +1,5 @@
 pub mod TableOutput
+pub mod MapJson
 pub mod MapOutput
 pub mod Opened
 pub mod EndStatus
@@ -25,6 +26,8 @@ pub mod LayerNotes
 pub mod Qualifiers
 pub mod BoxGaps
 pub mod SurveyText
+pub mod SurveyJson
+pub mod SurveyForm
 pub mod LayersText
 pub mod WarningsLaw
 pub mod Refused

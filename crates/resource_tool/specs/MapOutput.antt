@@ -1,5 +1,5 @@
 -- What the command `map` prints, and what its words ask.
-use Rattle.std.specs.Prelude.{◌≡◌, ℕ, not, List, Option, unwrap_or, Result, Ok, Err, IsOk}
+use Rattle.std.specs.Prelude.{◌≡◌, ℕ, not, List, [], Option, unwrap_or, Result, Ok, Err, IsOk}
 use Rattle.std.specs.Io.KnownBytes.{Appends}
 use Rattle.contract_words.specs.Faults.{◌>>=◌}
 use Rattle.command_base.specs.answer_text.OnLine.{on_line}
@@ -18,6 +18,9 @@ use Rattle.resource_tool.specs.declared.map.Map.{Map}
 use Rattle.resource_tool.specs.declared.map.MapFiles.{MapFiles}
 use Rattle.command_base.specs.MadeMap.{made_map}
 use Rattle.command_base.specs.MapText.{is_whole, lines_of_left, map_text}
+use Rattle.resource_text.specs.declared.line_form.LineForm.{LineForm}
+use Rattle.resource_text.specs.declared.line_form.LineForm.TheVariants.{Text, Json}
+use Rattle.resource_tool.specs.MapJson.{map_json}
 
 -- ---- the output, and what is said beside it
 
@@ -37,6 +40,26 @@ map_output target_bytes overlay_bytes = do
   target ← table_of_layer 0 target_bytes
   overlay ← table_of_layer 1 overlay_bytes
   Ok (output_of_map overlay (made_map target overlay))
+
+-- what is printed as lines of JSON
+abbrev pub json_of_map : TableOf → MapOf → Output
+json_of_map overlay made = record { status = negative_if (not (is_whole overlay made)); text = map_json overlay made }
+
+unfoldable pub map_json_output : List ℕ → List ℕ → Result Output ToolFault
+map_json_output target_bytes overlay_bytes = do
+  target ← table_of_layer 0 target_bytes
+  overlay ← table_of_layer 1 overlay_bytes
+  Ok (json_of_map overlay (made_map target overlay))
+
+-- an output, with nothing said beside it
+abbrev pub alone : Result Output ToolFault → Result MapOutput ToolFault
+alone (Ok output) = Ok (record { output = output; lines = [] })
+alone (Err fault) = Err fault
+
+-- what is printed in a form
+abbrev pub map_printed : LineForm → List ℕ → List ℕ → Result MapOutput ToolFault
+map_printed (Text form) target_bytes overlay_bytes = map_output target_bytes overlay_bytes
+map_printed Json target_bytes overlay_bytes = alone (map_json_output target_bytes overlay_bytes)
 
 -- A command answered what is meant: one writer got the text of that, another its lines, and neither anything else. Else both
 -- are as they were, unless one of them failed; a writer fails only where the input is read.
@@ -69,5 +92,5 @@ map_files places target_path overlay_path = do
 
 abbrev pub PrintsMap : {W V : Type 0} → (W → Option (List ℕ)) → (V → Option (List ℕ)) → W → W → V → V → Places → Map → Result Status Stop → Type 0
 PrintsMap contents says old new before after places map result =
-    CarriesOut (λ inputs done. PrintsBoth contents says old new before after done (map_output inputs.target inputs.overlay))
+    CarriesOut (λ inputs done. PrintsBoth contents says old new before after done (map_printed map.form inputs.target inputs.overlay))
     (map_files places map.target.now map.overlay.now) result

@@ -17,7 +17,7 @@ use Rattle.command_base.specs.names.Shared.{shared_ids, shared_of}
 use Rattle.resource_tool.specs.LayerNotes.{layer_differs}
 use Rattle.resource_tool.specs.Qualifiers.{rows_in_stack, numbers_at, spread_of}
 use Rattle.resource_tool.specs.BoxGaps.{locales_of_box, lacks}
-use Rattle.resource_tool.specs.SurveyText.{shared_line, qualifier_line, lacking_line}
+use Rattle.resource_tool.specs.SurveyForm.{FormOf, shared_in, qualifier_in, lacking_in}
 use Rattle.resource_tool.specs.LayersText.{layers_text}
 use Rattle.resource_tool.specs.Refused.{refused_output}
 
@@ -41,15 +41,15 @@ survey_inputs_by rule layers box_json = do
   sets ← sets_in rule box_json
   Ok (record { stack = stack; sets = sets; rule = rule })
 
--- ---- the text
+-- ---- the lines
 
 -- the qualifiers of all rows, in the order of the coordinates
-unfoldable pub qualifiers_text : List LayerOf → List ℕ
-qualifiers_text stack = flat_map (λ c. qualifier_line c (spread_of (numbers_at c (rows_in_stack stack)))) all_coords
+unfoldable pub qualifiers_text : FormOf → List LayerOf → List ℕ
+qualifiers_text form stack = flat_map (λ c. qualifier_in form c (spread_of (numbers_at c (rows_in_stack stack)))) all_coords
 
 -- those that the box lacks
-unfoldable pub lacking_text : SurveyInputs → List ℕ
-lacking_text inputs = flat_map (λ c. lacking_line (lacks inputs.sets (rows_in_stack inputs.stack) c) c) all_coords
+unfoldable pub lacking_text : FormOf → SurveyInputs → List ℕ
+lacking_text form inputs = flat_map (λ c. lacking_in form (lacks inputs.sets (rows_in_stack inputs.stack) c) c) all_coords
 
 -- ---- the status
 
@@ -64,18 +64,19 @@ lacks_some inputs = list_any (lacks inputs.sets (rows_in_stack inputs.stack)) al
 -- ---- the output
 
 -- What is printed of layers and a box that were opened. It is done where nothing makes an answer differ.
-unfoldable pub survey_answer : List LayerBytes → SurveyInputs → Output
-survey_answer layers inputs = let locales = locales_of_box inputs.sets in let shared = shared_of (shared_ids inputs.stack) in record {
+unfoldable pub survey_answer : FormOf → List LayerBytes → SurveyInputs → Output
+survey_answer form layers inputs = let locales = locales_of_box inputs.sets in let shared = shared_of (shared_ids inputs.stack) in record {
   status = negative_if (layers_differ inputs.rule inputs.stack locales layers || is_some shared || lacks_some inputs);
-  text = layers_text inputs.rule inputs.stack locales layers ++ (shared_line shared ++ (qualifiers_text inputs.stack ++ lacking_text inputs));
+  text =
+      layers_text form inputs.rule inputs.stack locales layers ++ (shared_in form shared ++ (qualifiers_text form inputs.stack ++ lacking_text form inputs));
 }
 
 -- what is printed of what layers and a box mean
-abbrev pub surveyed : List LayerBytes → Result SurveyInputs ToolFault → Result Output ToolFault
-surveyed layers (Ok inputs) = Ok (survey_answer layers inputs)
-surveyed layers (Err (LayerTable place fault)) = refused_output layers (LayerTable place fault)
-surveyed layers (Err fault) = Err fault
+abbrev pub surveyed : FormOf → List LayerBytes → Result SurveyInputs ToolFault → Result Output ToolFault
+surveyed form layers (Ok inputs) = Ok (survey_answer form layers inputs)
+surveyed form layers (Err (LayerTable place fault)) = refused_output form layers (LayerTable place fault)
+surveyed form layers (Err fault) = Err fault
 
--- What `survey` prints of these layers and a box's text, where locales are compared by this rule.
-unfoldable pub survey_output_by : LocaleRule → List LayerBytes → Option (List ℕ) → Result Output ToolFault
-survey_output_by rule layers box_json = surveyed layers (survey_inputs_by rule layers box_json)
+-- What `survey` prints in a form of these layers and a box's text, where locales are compared by this rule.
+unfoldable pub survey_output_by : FormOf → LocaleRule → List LayerBytes → Option (List ℕ) → Result Output ToolFault
+survey_output_by form rule layers box_json = surveyed form layers (survey_inputs_by rule layers box_json)

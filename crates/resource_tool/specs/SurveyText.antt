@@ -1,6 +1,5 @@
 -- What a survey found, as text. A line begins with `warning` where an answer can differ by it from a device's.
-use Rattle.std.specs.Prelude.{ℕ, ◌==◌, Bool, List, [], ◌∷◌, ◌++◌, codes, Option, Some, None, if◌then◌else◌}
-use Rattle.std.specs.List.{flat_map}
+use Rattle.std.specs.Prelude.{ℕ, List, [], ◌∷◌, ◌++◌, codes, if◌then◌else◌}
 use Rattle.std.specs.Fmt.{decimal}
 use Rattle.command_base.specs.cert_tree.config_box.config_record.declared.coord.Coord as coord
 use Rattle.command_base.specs.cert_tree.config_box.config_record.declared.coord.Coord.TheVariants as coords
@@ -15,9 +14,7 @@ use Rattle.resource_tool.specs.declared.survey.finding.Finding.{Finding}
 use Rattle.resource_tool.specs.declared.survey.site.Site.{Site}
 use Rattle.resource_tool.specs.declared.survey.site.Site.TheVariants.{Chunk, Row}
 use Rattle.resource_tool.specs.declared.survey.findings.Tally.{Tally}
-use Rattle.resource_tool.specs.Finding.{all_findings, name_of, differs}
-use Rattle.resource_tool.specs.Findings.{Note}
-use Rattle.resource_tool.specs.Counted.{notes_with, tally_of}
+use Rattle.resource_tool.specs.Finding.{name_of, differs}
 use Rattle.resource_tool.specs.declared.survey.qualifiers.Spread.{Spread}
 
 -- the place of a chunk in its file, or the id of a row
@@ -32,20 +29,13 @@ weight_text finding = if differs finding then codes "warning " else codes "note 
 unfoldable pub tally_text : Finding → Tally → List ℕ
 tally_text finding tally = named_number (name_of finding) tally.count ++ codes " first " ++ site_text tally.first
 
--- the line `note layer L NAME COUNT first SITE`, or that of a warning; none where nothing is found
+-- the line `note layer L NAME COUNT first SITE`, or that of a warning
 unfoldable pub found_line : ℕ → Finding → Tally → List ℕ
-found_line layer finding tally =
-    if tally.count == 0 then [] else weight_text finding ++ layer_text layer ++ codes " " ++ tally_text finding tally ++ 10 ∷ []
+found_line layer finding tally = weight_text finding ++ layer_text layer ++ codes " " ++ tally_text finding tally ++ 10 ∷ []
 
--- a line for each finding that the notes of a layer have, in the order of findings
-unfoldable pub notes_text : ℕ → List Note → List ℕ
-notes_text layer notes = flat_map (λ finding. found_line layer finding (tally_of (notes_with finding notes))) all_findings
-
--- the line `warning shared-names N first ID`, where some ids have names that stand for others
-unfoldable pub shared_line : Option SharedNames → List ℕ
-shared_line None = []
-shared_line (Some shared) =
-    named_number (codes "warning shared-names") shared.count ++ codes " first " ++ id_text shared.first.0 ++ 10 ∷ []
+-- the line `warning shared-names N first ID`
+unfoldable pub shared_line : SharedNames → List ℕ
+shared_line shared = named_number (codes "warning shared-names") shared.count ++ codes " first " ++ id_text shared.first.0 ++ 10 ∷ []
 
 -- a number of a coordinate; that of a locale is its text
 unfoldable pub number_text : coord.Coord → ℕ → List ℕ
@@ -56,15 +46,10 @@ number_text c n = decimal n
 unfoldable pub range_text : coord.Coord → Spread → List ℕ
 range_text c spread = codes " from " ++ number_text c spread.least ++ codes " to " ++ number_text c spread.greatest
 
--- the line `qualifier NAME rows COUNT RANGE`; none where no row has it
+-- the line `qualifier NAME rows COUNT RANGE`
 unfoldable pub qualifier_line : coord.Coord → Spread → List ℕ
-qualifier_line c spread =
-    if spread.count == 0 then [] else named_coord (codes "qualifier") c ++ named_number (codes " rows") spread.count ++ range_text c spread ++ 10 ∷ []
+qualifier_line c spread = named_coord (codes "qualifier") c ++ named_number (codes " rows") spread.count ++ range_text c spread ++ 10 ∷ []
 
 -- the line `warning box lacks NAME`
 unfoldable pub lacks_line : coord.Coord → List ℕ
 lacks_line c = codes "warning box lacks " ++ name_of_coord c ++ 10 ∷ []
-
--- that line, where it does
-unfoldable pub lacking_line : Bool → coord.Coord → List ℕ
-lacking_line lacking c = if lacking then lacks_line c else []

@@ -2,7 +2,7 @@
 
 ghost use Rattle.std.specs.Prelude.{◌≡◌, ◌∷◌, [], ◌++◌, ◌+◌, ◌<◌, ◌^◌, List, length, map, drop, IfOk, OnOk};
 ghost use Rattle.resource_text.specs.cert_maker.cert_tree.Certificate.{goal_of};
-ghost use Rattle.resource_text.specs.RejectionNotation.{claim_at};
+ghost use Rattle.resource_text.specs.VerdictForms.{claim_at};
 ghost use Rattle.resource_text.specs.declared.rejection.Rejection.{Rejection};
 ghost use Rattle.resource_tool.specs.EachGoal.{IsGoalVerdict, AreRejections, IsWith, at_place, goes_on};
 

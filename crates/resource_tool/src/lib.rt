@@ -10,11 +10,11 @@
 //! ```text
 //! let query = Query { layers: "layers.json", device: "device.json", locales: LocaleRule::Android, names: false, form: LineForm::Json, words };
 //! query.answer(alloc, &inputs, &mut out)?; // reads these files, and prints what `query_bytes` does as JSON
-//! Map { target: "app.arsc", overlay: "-" }.answer(alloc, &inputs, &mut out, &mut errors)?; // as `map_bytes`
+//! Map { target: "app.arsc", overlay: "-", form: LineForm::Text(Form::Raw) }.answer(alloc, &inputs, &mut out, &mut errors)?; // as `map_bytes`
 //! let make = Make { layers: "layers.json", box_path: "box.json", locales: LocaleRule::Android, names: false, omit: false, max_nodes: 100_000, goals };
 //! make.answer(alloc, &inputs, Watch { clock: &rt, is_terminal: true, reached: &reached }, &mut out, &mut errors)?; // with a line of the work
 //!
-//! let survey = Survey { layers: "layers.json", box_path: Some("box.json"), locales: LocaleRule::Android };
+//! let survey = Survey { layers: "layers.json", box_path: Some("box.json"), locales: LocaleRule::Android, form: LineForm::Text(Form::Raw) };
 //! survey.answer(alloc, &inputs, &mut out)?; // warning layer 0 compact-entry 12 first 348
 //!                                           // qualifier density rows 2 from 240 to 320
 //!                                           // warning box lacks orientation

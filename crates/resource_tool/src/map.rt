@@ -5,14 +5,20 @@ ghost use Rattle.command_base.specs.Stop.{GivesOrStops};
 ghost use Rattle.command_base.specs.declared.fault.ToolFault.TheVariants.{Write};
 ghost use Rattle.command_base.specs.MadeMap.{made_map};
 ghost use Rattle.command_base.specs.MapText.{MadeMapReadsBack, ReadsBack};
-ghost use Rattle.resource_tool.specs.MapOutput.{PrintsBoth, PrintsMap, map_files, map_held, overlay_held, map_output, output_of_map};
+ghost use Rattle.resource_tool.specs.MapOutput.{PrintsBoth, PrintsMap, map_files, map_held, map_json_output, map_printed, overlay_held, map_output, output_of_map};
 ghost use Rattle.command_base.specs.CarriesOut.{IsKept};
+ghost use Rattle.command_base.specs.Output.{Prints};
 
+mod json;
+
+use crate::map::json::map_json;
+use crate::text::print_text;
 use answer_text::write_on_line;
 use command_base::{
     Inputs, MadeMap, Status, Stop, Table, TableFile, ToolFault, layer_table_file, open_table,
     status_or_stop,
 };
+use resource_text::LineForm;
 use std::alloc::Global;
 use std::io::Write;
 
@@ -29,6 +35,8 @@ pub struct Map<'a> {
     pub target: &'a str,
     /// Where that of the overlay lies.
     pub overlay: &'a str,
+    /// How it is printed: as the map that a list of layers names, or as lines of JSON, with what it leaves out.
+    pub form: LineForm,
 }
 
 impl<'a> Map<'a> {
@@ -46,7 +54,24 @@ impl<'a> Map<'a> {
         ensures unsaid { IsKept errors.old errors.new result }
     {
         let files = MapFiles::read(inputs, self.target, self.overlay)?;
-        status_or_stop(map_bytes(alloc, files.target.table(), files.overlay(), out, errors))
+        let (target, overlay) = (files.target.table(), files.overlay());
+        status_or_stop(self.print(alloc, target, overlay, out, errors))
+    }
+
+    fn print<W: Write + Drop, E: Write + Drop>(
+        &self,
+        alloc: Global,
+        target: &[u8],
+        overlay: &[u8],
+        out: &mut W,
+        errors: &mut E,
+    ) -> Result<Status, ToolFault>
+        ensures { PrintsBoth W.contents E.contents out.old out.new errors.old errors.new result (map_printed self.now.form target.now overlay.now) }
+    {
+        match self.form {
+            LineForm::Text(_) => map_bytes(alloc, target, overlay, out, errors),
+            LineForm::Json => print_json(alloc, target, overlay, out),
+        }
     }
 }
 
@@ -128,4 +153,20 @@ fn print_map<W: Write + Drop, E: Write + Drop>(
     out.write_all(&made.json)?;
     write_on_line(&made.left, errors)?;
     Ok(Status::negative_if(!made.is_whole))
+}
+
+// Prints the map and what it leaves out as lines of JSON.
+#[tactic(auto, unfolding(crate::specs::MapOutput::map_json_output))]
+fn print_json<W: Write + Drop>(
+    alloc: Global,
+    target: &[u8],
+    overlay: &[u8],
+    out: &mut W,
+) -> Result<Status, ToolFault>
+    ensures { Prints W.contents out.old out.new result (map_json_output target.now overlay.now) }
+{
+    let target = open_table(alloc, TARGET_LAYER, target)?;
+    let overlay = open_table(alloc, OVERLAY_LAYER, overlay)?;
+    let lines = map_json(alloc, &target, &overlay)?;
+    print_text(Status::negative_if(!lines.is_whole), &lines.text, out)
 }

@@ -18,7 +18,7 @@ ghost use Rattle.resource_tool.specs.Counting.{spread_in};
 ghost use Rattle.resource_tool.specs.BoxGaps.{lacks};
 ghost use Rattle.resource_tool.specs.OpenedSeen.{opened_survey};
 ghost use Rattle.resource_tool.specs.Survey.{Surveys, SurveysFiles, survey_files, survey_held};
-ghost use Rattle.resource_tool.specs.SurveyText.{qualifier_line, lacking_line};
+ghost use Rattle.resource_tool.specs.SurveyForm.{form_seen, lacking_in, qualifier_in};
 ghost use Rattle.resource_tool.specs.SurveyOutput.{lacking_text, lacks_some, survey_answer, survey_output_by};
 ghost use Rattle.command_base.specs.CarriesOut.{IsKept};
 
@@ -27,6 +27,8 @@ mod chunks;
 mod entries;
 mod finding;
 mod findings;
+mod form;
+mod json;
 mod layers;
 mod layout;
 mod opened;
@@ -38,15 +40,17 @@ mod site;
 mod text;
 mod types;
 
+use crate::survey::form::SurveyForm;
 use crate::survey::layers::write_layers;
 use crate::survey::opened::OpenedSurvey;
 use crate::survey::qualifiers::Qualifiers;
 use crate::survey::refused::survey_refused;
-use crate::survey::text::{write_lacks, write_qualifier, write_shared};
+use crate::text::print_text;
 use command_base::{
     Coord, Inputs, LayerFiles, LayerParts, LocaleRule, Status, Stop, ToolFault, file_bytes,
     status_or_stop,
 };
+use resource_text::LineForm;
 use std::alloc::Global;
 use std::io::{self, Write};
 
@@ -59,6 +63,8 @@ pub struct Survey<'a> {
     pub box_path: Option<&'a str>,
     /// By which rule locales are compared.
     pub locales: LocaleRule,
+    /// How its lines are written.
+    pub form: LineForm,
 }
 
 impl<'a> Survey<'a> {
@@ -82,12 +88,17 @@ impl<'a> Survey<'a> {
         files: &SurveyFiles,
         out: &mut W,
     ) -> Result<Status, Stop<'static>>
-        ensures { SurveysFiles W.contents out.old out.new self.now.locales (Ok (survey_held files.now)) result
+        ensures { SurveysFiles W.contents out.old out.new self.now (Ok (survey_held files.now)) result
             × IsKept out.old out.new result }
     {
         let layers = files.layers.layers(alloc)?;
         let box_json = files.box_json.as_deref();
-        status_or_stop(survey_by(alloc, &layers, box_json, self.locales, out))
+        let form = SurveyForm {
+            alloc,
+            lines: self.form,
+            paths: files.layers.paths(),
+        };
+        status_or_stop(survey_by(&form, &layers, box_json, self.locales, out))
     }
 }
 
@@ -135,60 +146,86 @@ fn box_bytes<'a, I: Inputs>(
 // this is told of the chunks of all tables, if an answer could differ by those of the one that is refused.
 #[tactic(auto, unfolding(crate::specs::SurveyOutput::survey_output_by))]
 fn survey_by<W: Write + Drop>(
-    alloc: Global,
+    form: &SurveyForm<'_>,
     layers: &[LayerParts<&[u8]>],
     box_json: Option<&[u8]>,
     rule: LocaleRule,
     out: &mut W,
 ) -> Result<Status, ToolFault>
     ensures { Prints W.contents out.old out.new result
-        (survey_output_by rule (map layer_bytes layers.now) (option_map (λ json. json.now) box_json.entry)) }
+        (survey_output_by (form_seen form.now) rule (map layer_bytes layers.now) (option_map (λ json. json.now) box_json.entry)) }
 {
-    match OpenedSurvey::read(alloc, layers, box_json, rule) {
-        Ok(opened) => Ok(write_answer(layers, &opened, out)?),
+    match OpenedSurvey::read(form.alloc, layers, box_json, rule) {
+        Ok(opened) => print_answer(form, layers, &opened, out),
         Err(fault) if matches!(fault, ToolFault::LayerTable(..)) => {
-            survey_refused(alloc, layers, fault, out)
+            survey_refused(form, layers, fault, out)
         }
         Err(fault) => Err(fault),
     }
 }
 
+fn print_answer<W: Write + Drop>(
+    form: &SurveyForm<'_>,
+    layers: &[LayerParts<&[u8]>],
+    opened: &OpenedSurvey<'_>,
+    out: &mut W,
+) -> Result<Status, ToolFault>
+    requires { opened.now.shared ≡ shared_of (shared_ids opened.now.stack) }
+    ensures { Prints W.contents out.old out.new result (Ok (survey_answer (form_seen form.now) (map layer_bytes layers.now) (opened_survey opened.now))) }
+{
+    let mut text = Vec::new(form.alloc);
+    match write_answer(form, layers, opened, &mut text) {
+        Ok(status) => print_text(status, &text, out),
+        // To a `Vec` only a want of memory is a fault.
+        Err(_) => Err(ToolFault::OutOfMemory),
+    }
+}
+
 #[tactic(auto, unfolding(crate::specs::SurveyOutput::survey_answer))]
 fn write_answer<W: Write + Drop>(
+    form: &SurveyForm<'_>,
     layers: &[LayerParts<&[u8]>],
     opened: &OpenedSurvey<'_>,
     out: &mut W,
 ) -> io::Result<Status>
     requires { opened.now.shared ≡ shared_of (shared_ids opened.now.stack) }
-    ensures { Writes W.contents out.old out.new result (survey_answer (map layer_bytes layers.now) (opened_survey opened.now)).text
-        × IfOk result (λ status. status ≡ (survey_answer (map layer_bytes layers.now) (opened_survey opened.now)).status) }
+    ensures { Writes W.contents out.old out.new result (survey_answer (form_seen form.now) (map layer_bytes layers.now) (opened_survey opened.now)).text
+        × IfOk result (λ status. status ≡ (survey_answer (form_seen form.now) (map layer_bytes layers.now) (opened_survey opened.now)).status) }
 {
-    let differs = write_layers(&opened.stack, opened.rule, opened.locales(), layers, out)?;
-    write_shared(opened.shared, out)?;
+    let locales = opened.locales();
+    let differs = write_layers(form, &opened.stack, opened.rule, locales, layers, out)?;
+    form.write_shared(opened.shared, out)?;
     let qualifiers = Qualifiers::of_stack(&opened.stack);
-    write_lines(&qualifiers, out)?;
-    let lacks = write_all_lacking(opened, &qualifiers, out)?;
+    write_lines(form, &qualifiers, out)?;
+    let lacks = write_all_lacking(form, opened, &qualifiers, out)?;
     let shares = opened.shared.is_some();
     Ok(Status::negative_if(differs || shares || lacks))
 }
 
 #[tactic(auto, unfolding(crate::specs::Unfolded::all_coords))]
-fn write_lines<W: Write + Drop>(qualifiers: &Qualifiers, out: &mut W) -> io::Result<()>
-    ensures { Writes W.contents out.old out.new result (flat_map (λ c. qualifier_line c (spread_in qualifiers.now c)) all_coords) }
+fn write_lines<W: Write + Drop>(
+    form: &SurveyForm<'_>,
+    qualifiers: &Qualifiers,
+    out: &mut W,
+) -> io::Result<()>
+    ensures { Writes W.contents out.old out.new result
+        (flat_map (λ c. qualifier_in (form_seen form.now) c (spread_in qualifiers.now c)) all_coords) }
 {
-    write_each_line(qualifiers, &Coord::ALL, out)
+    write_each_line(form, qualifiers, &Coord::ALL, out)
 }
 
 #[tactic(auto, using(crate::proofs::AnySteps::finds))]
 fn write_each_line<W: Write + Drop>(
+    form: &SurveyForm<'_>,
     qualifiers: &Qualifiers,
     coords: &[Coord],
     out: &mut W,
 ) -> io::Result<()>
-    ensures { Writes W.contents out.old out.new result (flat_map (λ c. qualifier_line c (spread_in qualifiers.now c)) coords.now) }
+    ensures { Writes W.contents out.old out.new result
+        (flat_map (λ c. qualifier_in (form_seen form.now) c (spread_in qualifiers.now c)) coords.now) }
 {
     for coord in coords {
-        write_qualifier(*coord, qualifiers.spread(*coord), out)?;
+        form.write_qualifier(*coord, qualifiers.spread(*coord), out)?;
     }
     Ok(())
 }
@@ -196,19 +233,21 @@ fn write_each_line<W: Write + Drop>(
 // Writes the qualifiers that the box lacks, and says whether there are some.
 #[tactic(auto, unfolding(crate::specs::SurveyOutput::lacking_text, crate::specs::SurveyOutput::lacks_some, crate::specs::Unfolded::all_coords))]
 fn write_all_lacking<W: Write + Drop>(
+    form: &SurveyForm<'_>,
     opened: &OpenedSurvey<'_>,
     qualifiers: &Qualifiers,
     out: &mut W,
 ) -> io::Result<bool>
     requires { (c : coord.Coord) → spread_in qualifiers.now c ≡ spread_of (numbers_at c (rows_in_stack opened.now.stack)) }
-    ensures text { Writes W.contents out.old out.new result (lacking_text (opened_survey opened.now)) }
+    ensures text { Writes W.contents out.old out.new result (lacking_text (form_seen form.now) (opened_survey opened.now)) }
     ensures lacks { IfOk result (λ some. some ≡ lacks_some (opened_survey opened.now)) }
 {
-    write_each_lacking(opened, qualifiers, &Coord::ALL, out)
+    write_each_lacking(form, opened, qualifiers, &Coord::ALL, out)
 }
 
 #[tactic(auto, using(crate::proofs::AnySteps::finds))]
 fn write_each_lacking<W: Write + Drop>(
+    form: &SurveyForm<'_>,
     opened: &OpenedSurvey<'_>,
     qualifiers: &Qualifiers,
     coords: &[Coord],
@@ -216,26 +255,14 @@ fn write_each_lacking<W: Write + Drop>(
 ) -> io::Result<bool>
     requires { (c : coord.Coord) → spread_in qualifiers.now c ≡ spread_of (numbers_at c (rows_in_stack opened.now.stack)) }
     ensures text { Writes W.contents out.old out.new result
-        (flat_map (λ c. lacking_line (lacks (opened_survey opened.now).sets (rows_in_stack opened.now.stack) c) c) coords.now) }
+        (flat_map (λ c. lacking_in (form_seen form.now) (lacks (opened_survey opened.now).sets (rows_in_stack opened.now.stack) c) c) coords.now) }
     ensures lacks { IfOk result (λ some. some ≡ list_any (lacks (opened_survey opened.now).sets (rows_in_stack opened.now.stack)) coords.now) }
 {
     let mut some = false;
     for coord in coords {
         let lacking = opened.lacks(*coord, qualifiers.spread(*coord));
-        write_lacking(lacking, *coord, out)?;
+        form.write_lacking(lacking, *coord, out)?;
         some |= lacking;
     }
     Ok(some)
-}
-
-// Writes the line of a qualifier, if the box lacks it.
-#[tactic(auto, unfolding(crate::specs::SurveyText::lacking_line))]
-fn write_lacking<W: Write + Drop>(lacking: bool, coord: Coord, out: &mut W) -> io::Result<()>
-    ensures { Writes W.contents out.old out.new result (lacking_line lacking coord) }
-{
-    if lacking {
-        write_lacks(coord, out)
-    } else {
-        Ok(())
-    }
 }

@@ -1,6 +1,6 @@
 //! The command `unused`.
 
-ghost use Rattle.std.specs.Prelude.{map, option_map, Some, Ok, IfSome};
+ghost use Rattle.std.specs.Prelude.{map, option_map, string_bytes, Some, Ok, IfSome};
 ghost use Rattle.command_base.specs.CarriesOut.{IsKept};
 ghost use Rattle.command_base.specs.Output.{Prints, PrintsOneOf};
 ghost use Rattle.command_base.specs.declared.fault.ToolFault.TheVariants.{OutOfMemory, Write};
@@ -19,7 +19,7 @@ use command_base::{
     Inputs, LocaleRule, NamedSet, Status, Stop, ToolFault, asked_sets, status_or_stop,
 };
 use names::{NameFault, ids_named};
-use resource_text::{Form, LineForm};
+use resource_text::LineForm;
 use stack_diff::{ResId, RowUse, Stack, row_uses};
 use std::alloc::Global;
 use std::io::Write;
@@ -33,6 +33,8 @@ pub struct Unused<'a> {
     pub box_path: &'a str,
     /// By which rule locales are compared.
     pub locales: LocaleRule,
+    /// How it is written.
+    pub form: LineForm,
     /// How many nodes the trees that part the devices have together at most.
     pub max_nodes: u32,
     /// The words that ask for resources, or name a file of such words.
@@ -68,7 +70,33 @@ impl<'a> Unused<'a> {
         let sets = asked_sets(alloc, &files.words)?;
         let opened = OpenedValues::read(alloc, files, self.locales)?;
         let asked = asked_ids(alloc, &opened.stack, &sets)?;
-        status_or_stop(tell_unused(alloc, opened, asked, self.max_nodes, out))
+        status_or_stop(self.tell(alloc, files.layers.paths(), opened, asked, out))
+    }
+    // Prints which of the rows that are asked for no device loads, where the tables lie at these paths; or that the trees which part
+    // the devices can have more than `max_nodes` nodes together. All memory is taken before the first line is written.
+    fn tell<W: Write + Drop>(
+        &self,
+        alloc: Global,
+        paths: &[String],
+        opened: OpenedValues<'_>,
+        asked: Option<Vec<ResId>>,
+        out: &mut W,
+    ) -> Result<Status, ToolFault>
+        ensures { PrintsOneOf (IsUnusedOutput self.now.form (map string_bytes paths.now) (option_map (λ ids. ids.items) asked) self.now.max_nodes)
+            W.contents out.old out.new result (Ok (opened_values opened.entry)) }
+    {
+        let OpenedValues { stack, members, .. } = opened;
+        let uses = row_uses(
+            alloc,
+            &stack,
+            &members,
+            asked.as_deref(),
+            self.max_nodes as usize,
+        )?;
+        match uses {
+            Some(uses) => print_unused(alloc, self.form, paths, stack, &uses, out),
+            None => print_node_limit(self.form, out),
+        }
     }
 }
 
@@ -87,43 +115,20 @@ fn asked_ids(
     Ok(Some(ids))
 }
 
-// Prints which of the rows that are asked for no device loads; or `node limit`, where the trees that part the devices can have
-// more than `max_nodes` nodes together. All memory is taken before the first line is written.
-fn tell_unused<W: Write + Drop>(
-    alloc: Global,
-    opened: OpenedValues<'_>,
-    asked: Option<Vec<ResId>>,
-    max_nodes: u32,
-    out: &mut W,
-) -> Result<Status, ToolFault>
-    ensures { PrintsOneOf (IsUnusedOutput (option_map (λ ids. ids.items) asked) max_nodes) W.contents out.old out.new result (Ok (opened_values opened.entry)) }
-{
-    let OpenedValues { stack, members, .. } = opened;
-    let uses = row_uses(
-        alloc,
-        &stack,
-        &members,
-        asked.as_deref(),
-        max_nodes as usize,
-    )?;
-    match uses {
-        Some(uses) => print_unused(alloc, stack, &uses, out),
-        // Any form of text has this line.
-        None => print_node_limit(LineForm::Text(Form::Android), out),
-    }
-}
-
 fn print_unused<W: Write + Drop>(
     alloc: Global,
+    form: LineForm,
+    paths: &[String],
     stack: Stack<'_>,
     uses: &[Vec<Option<RowUse>>],
     out: &mut W,
 ) -> Result<Status, ToolFault>
-    ensures { Prints W.contents out.old out.new result (Ok (unused_output stack.entry (Some (map (λ of_layer. of_layer.items) uses.now)))) }
+    ensures { Prints W.contents out.old out.new result (Ok (unused_output form (map string_bytes paths.now) stack.entry
+        (Some (map (λ of_layer. of_layer.items) uses.now)))) }
 {
     let mut text = Vec::new(alloc);
-    let totals = push_layers(alloc, stack, uses, &mut text)?;
+    let totals = push_layers(alloc, form, paths, stack, uses, &mut text)?;
     out.write_all(&text)?;
-    totals.write(out)?;
+    totals.write(form, out)?;
     Ok(Status::negative_if(totals.unused > 0))
 }

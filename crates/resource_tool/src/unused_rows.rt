@@ -1,20 +1,19 @@
 //! The rows that no device loads, written and counted.
 
-ghost use Rattle.std.specs.Prelude.{◌≡◌, ℕ, ◌+◌, ◌<◌, ◌*◌, ◌^◌, ◌++◌, fold, length, map, option_map, zip, OnOk, IfOk};
+ghost use Rattle.std.specs.Prelude.{◌≡◌, ℕ, ◌+◌, ◌<◌, ◌*◌, ◌^◌, ◌++◌, fold, length, map, option_map, string_bytes, zip, OnOk, IfOk};
 ghost use Rattle.std.specs.Io.KnownBytes.{Appends};
 ghost use Rattle.std.specs.List.{enumerate_from, flat_map};
 ghost use Rattle.contract_words.specs.Writes.{Writes};
-ghost use Rattle.resource_text.specs.TableNotation.{alone};
 ghost use Rattle.answer_text.specs.overlay_map.Table.{rows_of};
 ghost use Rattle.answer_text.specs.type_chunks.Row.{row_of};
 ghost use Rattle.res_value.specs.Cell.{cell_of};
 ghost use Rattle.res_value.specs.MapRows.{map_rows_of};
 ghost use Rattle.answer_text.specs.overlay_map.Layer.{LayerOf, by_itself};
-ghost use Rattle.resource_tool.specs.UnusedOutput.{entry_size, layer_lines, totals_line, totals_of, use_line, used_rows, with_row, word_of};
+ghost use Rattle.resource_tool.specs.UnusedOutput.{entry_size, is_overlay, layer_lines, row_line, totals_line, totals_of, use_lines, used_rows, with_row, word_of};
 ghost use Rattle.resource_tool.specs.UnusedTotals.{IsWithin};
 
 use answer_text::{Cell, MapRows, Row, Table, write_layer};
-use resource_text::{Naming, write_row_end};
+use resource_text::{LineForm, Naming, write_row_end, write_row_json};
 use stack_diff::{RowUse, Stack};
 use std::alloc::{AllocError, Global};
 use std::io::{self, Write};
@@ -66,9 +65,9 @@ impl Totals {
 
     /// Writes the last line.
     #[tactic(auto, unfolding(crate::specs::UnusedOutput::totals_line))]
-    pub(crate) fn write<W: Write + Drop>(self, out: &mut W) -> io::Result<()>
+    pub(crate) fn write<W: Write + Drop>(self, form: LineForm, out: &mut W) -> io::Result<()>
         requires { IsWithin (2 ^ 80) self }
-        ensures { Writes W.contents out.old out.new result (totals_line self) }
+        ensures { Writes W.contents out.old out.new result (totals_line form self) }
     {
         let Totals {
             loaded,
@@ -78,11 +77,25 @@ impl Totals {
             bytes,
         } = self;
         let rows = loaded + unused + overlaid + unmapped;
-        writeln!(
-            out,
-            "rows {rows} unused {unused} overlaid {overlaid} unmapped {unmapped} bytes {bytes}"
-        )
+        match form {
+            LineForm::Text(_) => writeln!(
+                out,
+                "rows {rows} unused {unused} overlaid {overlaid} unmapped {unmapped} bytes {bytes}"
+            ),
+            LineForm::Json => writeln!(
+                out,
+                "{{\"bytes\":{bytes},\"count\":{rows},\"line\":\"rows\",\"overlaid\":{overlaid},\"unmapped\":{unmapped},\"unused\":{unused}}}"
+            ),
+        }
     }
+}
+
+/// A layer of which rows are told, and in which form.
+#[derive(Clone, Copy)]
+pub(crate) struct ToldLayer {
+    form: LineForm,
+    place: usize,
+    overlay: bool,
 }
 
 // The bytes of an entry.
@@ -103,50 +116,72 @@ fn bag_size(rows: MapRows<'_>) -> u128
     16 + 12 * rows.len() as u128
 }
 
-/// Pushes the lines of the rows of a stack that are told, layer by layer, and counts all rows that are asked for.
+/// Pushes the lines of the rows of a stack that are told, layer by layer, whose tables lie at these paths, and counts all rows that
+/// are asked for.
 pub(crate) fn push_layers(
     alloc: Global,
+    form: LineForm,
+    paths: &[String],
     stack: Stack<'_>,
     uses: &[Vec<Option<RowUse>>],
     text: &mut Vec<u8>,
 ) -> Result<Totals, AllocError>
-    ensures { IfOk result (λ totals. (text.new.items ≡ text.old.items ++ flat_map layer_lines (enumerate_from 0 (zip stack.entry (map (λ of_layer. of_layer.items) uses.now))))
+    ensures { IfOk result (λ totals. (text.new.items ≡ text.old.items ++ flat_map (layer_lines form (map string_bytes paths.now)) (enumerate_from 0 (zip stack.entry (map (λ of_layer. of_layer.items) uses.now))))
         × (totals ≡ totals_of stack.entry (map (λ of_layer. of_layer.items) uses.now))
         × IsWithin (2 ^ 80) totals) }
 {
     let mut totals = Totals::new();
     let mut place = 0;
+    let overlays = overlays(alloc, &stack)?;
     let layers = stack.apart(alloc)?;
     for of_layer in uses {
         let Some(layer) = layers.get(place) else {
             return Ok(totals);
         };
-        push_layer(alloc, place, layer, of_layer, &mut totals, text)?;
+        let told = ToldLayer {
+            form,
+            place,
+            overlay: overlays.get(place).copied().unwrap_or(false),
+        };
+        push_layer(alloc, paths, told, layer, of_layer, &mut totals, text)?;
         place += 1;
     }
     Ok(totals)
 }
 
+// Which layers are overlays.
+fn overlays(alloc: Global, stack: &Stack<'_>) -> Result<Vec<bool>, AllocError>
+    ensures { IfOk result (λ overlays. overlays.items ≡ map is_overlay stack.now) }
+{
+    let mut overlays = Vec::with_capacity(alloc, stack.len())?;
+    for place in 0..stack.len() {
+        overlays.push(stack.layer_map(place).is_some())?;
+    }
+    Ok(overlays)
+}
+
 // Pushes the lines of the rows of a layer that are told, which is a stack by itself.
 fn push_layer(
     alloc: Global,
-    place: usize,
+    paths: &[String],
+    told: ToldLayer,
     stack: &Stack<'_>,
     uses: &[Option<RowUse>],
     totals: &mut Totals,
     text: &mut Vec<u8>,
 ) -> Result<(), AllocError>
-    requires few { place < 64 }
-    requires within { IsWithin (place * 2 ^ 64) totals.old }
-    ensures text { (layer : LayerOf) → stack.now ≡ by_itself layer → OnOk result (text.new.items ≡ text.old.items ++ layer_lines (place, (layer, uses.now))) }
+    requires few { told.place < 64 }
+    requires within { IsWithin (told.place * 2 ^ 64) totals.old }
+    ensures text { (layer : LayerOf) → stack.now ≡ by_itself layer → told.overlay ≡ is_overlay layer
+        → OnOk result (text.new.items ≡ text.old.items ++ layer_lines told.form (map string_bytes paths.now) (told.place, (layer, uses.now))) }
     ensures counted { (layer : LayerOf) → stack.now ≡ by_itself layer → OnOk result (totals.new ≡ fold with_row totals.old (used_rows (layer, uses.now))) }
-    ensures within { OnOk result (IsWithin ((place + 1) * 2 ^ 64) totals.new) }
+    ensures within { OnOk result (IsWithin ((told.place + 1) * 2 ^ 64) totals.new) }
 {
     let Some(table) = stack.layer_table(0) else {
         return Ok(());
     };
-    let naming = Naming::of(alloc, stack, &[])?;
-    match write_rows(&naming, place, table, uses, totals, text) {
+    let naming = Naming::of(alloc, stack, paths)?;
+    match write_rows(&naming, told, table, uses, totals, text) {
         Ok(()) => Ok(()),
         // To a `Vec` only a want of memory is a fault.
         Err(_) => Err(AllocError),
@@ -157,24 +192,24 @@ fn push_layer(
 #[tactic(auto, using(contract_words::proofs::TextSteps::puts))]
 fn write_rows<W: Write + Drop>(
     naming: &Naming<'_, '_, '_>,
-    place: usize,
+    told: ToldLayer,
     table: &Table<'_>,
     uses: &[Option<RowUse>],
     totals: &mut Totals,
     out: &mut W,
 ) -> io::Result<()>
-    requires few { place < 64 }
-    requires within { IsWithin (place * 2 ^ 64) totals.old }
-    ensures { OnOk result (Appends (W.contents out.old) (W.contents out.new) (flat_map (use_line naming.now place) (zip (rows_of table.now) uses.now))
+    requires few { told.place < 64 }
+    requires within { IsWithin (told.place * 2 ^ 64) totals.old }
+    ensures { OnOk result (Appends (W.contents out.old) (W.contents out.new) (flat_map (use_lines naming.now told) (zip (rows_of table.now) uses.now))
         × (totals.new ≡ fold with_row totals.old (zip (rows_of table.now) uses.now))
-        × IsWithin ((place + 1) * 2 ^ 64) totals.new) }
+        × IsWithin ((told.place + 1) * 2 ^ 64) totals.new) }
 {
     let mut rows = table.all_rows();
     for row_use in uses {
         let Some(row) = rows.next() else {
             return Ok(());
         };
-        write_use(naming, place, &row, *row_use, out)?;
+        write_use(naming, told, &row, *row_use, out)?;
         totals.add(&row, *row_use);
     }
     Ok(())
@@ -185,27 +220,45 @@ fn word_of(row_use: Option<RowUse>) -> Option<&'static str>
     ensures { option_map (λ word. word.now) result ≡ word_of row_use }
 {
     match row_use {
-        Some(RowUse::Overlaid) => Some("overlaid "),
-        Some(RowUse::Unused) => Some("unused "),
-        Some(RowUse::Unmapped) => Some("unmapped "),
+        Some(RowUse::Overlaid) => Some("overlaid"),
+        Some(RowUse::Unused) => Some("unused"),
+        Some(RowUse::Unmapped) => Some("unmapped"),
         Some(RowUse::Loaded) | None => None,
     }
 }
 
-// Writes the line of a row that has such a word.
+// Writes the lines of a row that has such a word.
+#[tactic(auto, unfolding(crate::specs::UnusedOutput::use_lines))]
 fn write_use<W: Write + Drop>(
     naming: &Naming<'_, '_, '_>,
-    place: usize,
+    told: ToldLayer,
     row: &Row<'_>,
     row_use: Option<RowUse>,
     out: &mut W,
 ) -> io::Result<()>
-    ensures { Writes W.contents out.old out.new result (use_line naming.now place (row_of row.now, row_use)) }
+    ensures { Writes W.contents out.old out.new result (use_lines naming.now told (row_of row.now, row_use)) }
 {
     let Some(word) = word_of(row_use) else {
         return Ok(());
     };
+    match told.form {
+        LineForm::Text(_) => write_row_line(naming, told.place, word, row, out),
+        LineForm::Json => write_row_json(naming, told.place, told.overlay, word, row, out),
+    }
+}
+
+#[tactic(auto, unfolding(crate::specs::UnusedOutput::row_line))]
+fn write_row_line<W: Write + Drop>(
+    naming: &Naming<'_, '_, '_>,
+    place: usize,
+    word: &str,
+    row: &Row<'_>,
+    out: &mut W,
+) -> io::Result<()>
+    ensures { Writes W.contents out.old out.new result (row_line naming.now place word.now (row_of row.now)) }
+{
     out.write_all(word.as_bytes())?;
+    out.write_all(b" ")?;
     write_layer(place, out)?;
     out.write_all(b" ")?;
     naming.write_id(row.id, out)?;

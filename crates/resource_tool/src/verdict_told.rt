@@ -4,7 +4,7 @@ ghost use Rattle.std.specs.Prelude.{◌≡◌, ◌++◌, true, None, Some, map, 
 ghost use Rattle.std.specs.List.{flat_map};
 ghost use Rattle.std.specs.Option.{option_copied};
 ghost use Rattle.contract_words.specs.Writes.{Writes};
-ghost use Rattle.resource_text.specs.RejectionNotation.{rejections_in, set_aside_in};
+ghost use Rattle.resource_text.specs.VerdictForms.{rejections_in, set_aside_in};
 ghost use Rattle.resource_text.specs.cert_maker.cert_checker.Verdict.{IsVerdict};
 ghost use Rattle.resource_text.specs.cert_maker.cert_tree.Certificate.{goals_of};
 ghost use Rattle.resource_text.specs.cert_maker.res_value.Goal.{goal_seen};

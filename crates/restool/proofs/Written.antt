@@ -17,7 +17,7 @@ use Rattle.resource_tool.specs.command_base.Inputs.{Places, layers_of, table_of}
 use Rattle.resource_tool.specs.command_base.Output.{Output, Prints, PrintsOneOf}
 use Rattle.resource_tool.specs.command_base.Stop.{StopOf, stop_of, tool}
 use Rattle.resource_tool.specs.TableOutput.{rows_printed, dump_printed, ids_output}
-use Rattle.resource_tool.specs.MapOutput.{MapBytes, MapOutput, PrintsBoth, map_files, map_output}
+use Rattle.resource_tool.specs.MapOutput.{MapBytes, MapOutput, PrintsBoth, map_files, map_printed}
 use Rattle.resource_tool.specs.DeviceOutput.{as_output}
 use Rattle.resource_tool.specs.Opened.{OpenIdOf}
 use Rattle.resource_tool.specs.QueryOutput.{OpenQueryOf, query_printed}
@@ -30,8 +30,7 @@ use Rattle.resource_tool.specs.MakeOutput.{IsMakeAnswer}
 use Rattle.resource_tool.specs.OmitOutput.{IsOmitOutput, LinesFirst}
 use Rattle.resource_tool.specs.Check.{OpenCheckOf, check_files, paths_checked, telling_of}
 use Rattle.resource_tool.specs.CheckOutput.{IsCheckAnswer}
-use Rattle.resource_tool.specs.Survey.{SurveyBytes}
-use Rattle.resource_tool.specs.SurveyOutput.{survey_output_by}
+use Rattle.resource_tool.specs.Survey.{SurveyBytes, survey_printed}
 use Rattle.resource_tool.specs.Show.{ShowBytes, shown_output}
 use Rattle.resource_tool.specs.Diff.{OpenDiffOf}
 use Rattle.resource_tool.specs.DiffOutput.{IsDiffOutput}
@@ -268,10 +267,10 @@ module _ {W V E : Type 0} (is_terminal : Bool) (c : W → Option (List ℕ)) (d 
   answers-over from to carry carry_any carry_once carry_first carry_told carry_both places (asks.Rows it) p = carry _ (rows_printed it.android) (table_of places it.table.now) p
   answers-over from to carry carry_any carry_once carry_first carry_told carry_both places (asks.Dump it) p = carry _ (dump_printed it.android) (table_of places it.table.now) p
   answers-over from to carry carry_any carry_once carry_first carry_told carry_both places (asks.Map it) p =
-      carry_both _ (λ (inputs : MapBytes). map_output inputs.target inputs.overlay) (map_files places it.target.now it.overlay.now) p
+      carry_both _ (λ (inputs : MapBytes). map_printed it.form inputs.target inputs.overlay) (map_files places it.target.now it.overlay.now) p
   answers-over from to carry carry_any carry_once carry_first carry_told carry_both places (asks.Ids it) p = carry _ ids_output (layers_of places it.layers.now) p
   answers-over from to carry carry_any carry_once carry_first carry_told carry_both places (asks.Survey it) p =
-      carry _ (λ (files : SurveyBytes). survey_output_by it.locales files.layers files.box_json) _ p
+      carry _ (λ (files : SurveyBytes). survey_printed it files) _ p
   answers-over from to carry carry_any carry_once carry_first carry_told carry_both places (asks.Show it) p =
       carry _ (λ (files : ShowBytes). shown_output it.form it.pictured files) _ p
   answers-over from to carry carry_any carry_once carry_first carry_told carry_both places (asks.Query it) p =
@@ -291,7 +290,7 @@ module _ {W V E : Type 0} (is_terminal : Bool) (c : W → Option (List ℕ)) (d 
   answers-over from to carry carry_any carry_once carry_first carry_told carry_both places (asks.Values it) p =
       carry_any _ _ (λ (asked : OpenDiffOf). IsValuesOutput it.form asked.pairs it.max_nodes) (λ (asked : OpenDiffOf). Ok asked.opened) _ p
   answers-over from to carry carry_any carry_once carry_first carry_told carry_both places (asks.Unused it) p =
-      carry_any _ _ (λ (asked : OpenUnusedOf). IsUnusedOutput asked.asked it.max_nodes) (λ (asked : OpenUnusedOf). Ok asked.opened) _ p
+      carry_any _ _ (λ (asked : OpenUnusedOf). IsUnusedOutput it.form asked.paths asked.asked it.max_nodes) (λ (asked : OpenUnusedOf). Ok asked.opened) _ p
   answers-over from to carry carry_any carry_once carry_first carry_told carry_both places (asks.Device it) p = carry _ (λ (text : List ℕ). Ok (as_output text)) _ p
 
   answers-done : (status : Status) → Passes → (places : Places) (request : Request)

@@ -57,9 +57,9 @@ abbrev pub commands : List Shape
 commands =
     command (codes "rows") (android ∷ one_word (codes "TABLE") ∷ [])
     ∷ command (codes "dump") (android ∷ one_word (codes "TABLE") ∷ [])
-    ∷ command (codes "map") (one_word (codes "TARGET") ∷ one_word (codes "OVERLAY") ∷ [])
+    ∷ command (codes "map") (flag (codes "json") ∷ one_word (codes "TARGET") ∷ one_word (codes "OVERLAY") ∷ [])
     ∷ command (codes "ids") (layers ∷ [])
-    ∷ command (codes "survey") (locales ∷ layers ∷ maybe_one_word (codes "BOX") ∷ [])
+    ∷ command (codes "survey") (locales ∷ flag (codes "json") ∷ layers ∷ maybe_one_word (codes "BOX") ∷ [])
     ∷ command (codes "show") (flag (codes "raw") ∷ goal_number (codes "dot") ∷ layers ∷ one_word (codes "CERT") ∷ [])
     ∷ command (codes "query") (locales ∷ names ∷ android ∷ flag (codes "json") ∷ layers ∷ device ∷ ids ∷ [])
     ∷ command (codes "explain") (locales ∷ names ∷ android ∷ flag (codes "all") ∷ flag (codes "json") ∷ layers ∷ device ∷ one_word (codes "ID") ∷ [])
@@ -75,7 +75,7 @@ commands =
     ∷ command (codes "values")
     (locales ∷ flag (codes "raw") ∷ flag (codes "json") ∷ nodes (codes "max-nodes") ∷ layers ∷ one_word (codes "BOX") ∷ maybe_words (codes "NAME") ∷ [])
     ∷ command (codes "unused")
-    (locales ∷ nodes (codes "max-nodes") ∷ layers ∷ one_word (codes "BOX") ∷ maybe_words (codes "NAME") ∷ [])
+    (locales ∷ flag (codes "json") ∷ nodes (codes "max-nodes") ∷ layers ∷ one_word (codes "BOX") ∷ maybe_words (codes "NAME") ∷ [])
     ∷ command (codes "device") (locales ∷ flag (codes "config") ∷ device ∷ [])
     ∷ []
 
@@ -148,7 +148,7 @@ IsDumpOf rows _ = ⊥
 
 abbrev pub IsMapOf : List Row → Request → Type 0
 IsMapOf rows (requests.Map it) =
-    (it.target.now ≡ word_at (codes "TARGET") rows) × (it.overlay.now ≡ word_at (codes "OVERLAY") rows)
+    (it.target.now ≡ word_at (codes "TARGET") rows) × (it.overlay.now ≡ word_at (codes "OVERLAY") rows) × IsAnswerFormGiven rows it.form
 IsMapOf rows _ = ⊥
 
 abbrev pub IsIdsOf : List Row → Request → Type 0
@@ -158,6 +158,7 @@ IsIdsOf rows _ = ⊥
 abbrev pub IsSurveyOf : LocaleRule → List Row → Request → Type 0
 IsSurveyOf rule rows (requests.Survey it) =
     (it.locales ≡ rule) × (it.layers.now ≡ word_at (codes "LAYERS") rows) × (option_map (λ path. path.now) it.box_path ≡ first_of (codes "BOX") rows)
+    × IsAnswerFormGiven rows it.form
 IsSurveyOf rule rows _ = ⊥
 
 abbrev pub IsShowOf : List Row → Request → Type 0
@@ -221,7 +222,7 @@ IsValuesOf rule rows asked _ = ⊥
 abbrev pub IsUnusedOf : LocaleRule → List Row → List (List ℕ) → Request → Type 0
 IsUnusedOf rule rows asked (requests.Unused it) =
     (it.locales ≡ rule) × (it.layers.now ≡ word_at (codes "LAYERS") rows) × (it.box_path.now ≡ word_at (codes "BOX") rows)
-    × IsNodeLimit (one_of (codes "max-nodes") rows) it.max_nodes × (asked ≡ texts_of it.words)
+    × IsLineFormGiven rows it.form × IsNodeLimit (one_of (codes "max-nodes") rows) it.max_nodes × (asked ≡ texts_of it.words)
 IsUnusedOf rule rows asked _ = ⊥
 
 abbrev pub IsDeviceOf : LocaleRule → List Row → Request → Type 0

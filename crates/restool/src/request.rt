@@ -99,7 +99,7 @@ pub(crate) const USAGES: &[Usage] = &[
     Usage {
         name: MAP,
         about: "Prints an overlay's id map, made from names; what it leaves out goes to standard error, with status 1",
-        arguments: &[TARGET, OVERLAY],
+        arguments: &[JSON, TARGET, OVERLAY],
     },
     Usage {
         name: IDS_OF_LAYERS,
@@ -109,7 +109,7 @@ pub(crate) const USAGES: &[Usage] = &[
     Usage {
         name: SURVEY,
         about: "Prints warnings about the tables, the qualifiers of their rows, and those that a box lacks",
-        arguments: &[LOCALES, LAYERS, MAYBE_BOX],
+        arguments: &[LOCALES, JSON, LAYERS, MAYBE_BOX],
     },
     Usage {
         name: SHOW,
@@ -180,7 +180,7 @@ pub(crate) const USAGES: &[Usage] = &[
     Usage {
         name: UNUSED,
         about: "Prints the rows of tables that no device of a box loads",
-        arguments: &[LOCALES, PARTING_NODES, LAYERS, BOX, MAYBE_NAMES],
+        arguments: &[LOCALES, JSON, PARTING_NODES, LAYERS, BOX, MAYBE_NAMES],
     },
     Usage {
         name: DEVICE_FORM,
@@ -261,6 +261,7 @@ pub(crate) fn request_of<'a>(
         Command::Map => Ok(Request::Map(Map {
             target: given_word(given, &TARGET),
             overlay: given_word(given, &OVERLAY),
+            form: given_answer_form(given),
         })),
         Command::Ids => Ok(Request::Ids(Ids {
             layers: given_word(given, &LAYERS),
@@ -288,6 +289,7 @@ fn survey_of<'a>(given: &ArgMatches<'a>) -> Result<Request<'a>, ArgumentFault<'a
         layers: given_word(given, &LAYERS),
         box_path: given_maybe_word(given, &MAYBE_BOX),
         locales,
+        form: given_answer_form(given),
     }))
 }
 
@@ -445,6 +447,7 @@ fn unused_of<'a>(alloc: Global, given: &ArgMatches<'a>) -> Result<Request<'a>, A
         layers: given_word(given, &LAYERS),
         box_path: given_word(given, &BOX),
         locales,
+        form: given_line_form(given),
         max_nodes: given_nodes(given),
         words,
     }))

@@ -9,6 +9,7 @@ use crate::survey::site::Site;
 /// How many of something there are, and where the first is.
 #[derive(Clone, Copy)]
 pub(crate) struct Tally {
+    /// 4294967295 stands for as many and more.
     pub count: u32,
     pub first: Site,
 }
@@ -49,18 +50,11 @@ impl Findings {
         }
     }
 
-    /// How many there are of a finding; 4294967295 stands for as many and more.
-    pub fn count(&self, finding: Finding) -> u32
-        ensures { result ≡ (tally_in self.now finding).count }
+    /// How many there are of a finding, and where the first is; at a chunk at 0 where there is none.
+    pub fn tally(&self, finding: Finding) -> Tally
+        ensures { result ≡ tally_in self.now finding }
     {
-        self.tallies[finding.place()].count
-    }
-
-    /// Where the first is; at a chunk at 0 where there is none.
-    pub fn first(&self, finding: Finding) -> Site
-        ensures { result ≡ (tally_in self.now finding).first }
-    {
-        self.tallies[finding.place()].first
+        self.tallies[finding.place()]
     }
 
     /// Whether something was found by which an answer can differ from a device's.

@@ -6,45 +6,52 @@ ghost use Rattle.command_base.specs.declared.fault.ToolFault.TheVariants.{Write}
 ghost use Rattle.command_base.specs.Output.{Prints};
 ghost use Rattle.command_base.specs.StackBytesSeen.{layer_bytes};
 ghost use Rattle.resource_tool.specs.Refused.{chunks_differ, differs_where_refused, refused_text, refused_output};
+ghost use Rattle.resource_tool.specs.SurveyForm.{form_seen};
 
 use crate::survey::findings::Findings;
+use crate::survey::form::SurveyForm;
 use crate::survey::layers::write_layers;
-use command_base::{LayerParts, LocaleRule, Stack, Status, ToolFault, fault_text};
-use std::alloc::Global;
+use crate::text::print_text;
+use command_base::{LayerParts, LocaleRule, Stack, Status, ToolFault};
 use std::io::{self, Write};
 
 /// Prints what the chunks of all layers have, and the fault. Where no answer could differ by the chunks of a table that is
 /// refused, the fault is the answer.
 #[tactic(auto, unfolding(crate::specs::Refused::refused_output))]
 pub(crate) fn survey_refused<W: Write + Drop>(
-    alloc: Global,
+    form: &SurveyForm<'_>,
     layers: &[LayerParts<&[u8]>],
     fault: ToolFault,
     out: &mut W,
 ) -> Result<Status, ToolFault>
     requires { fault ≢ Write }
-    ensures { Prints W.contents out.old out.new result (refused_output (map layer_bytes layers.now) fault) }
+    ensures { Prints W.contents out.old out.new result (refused_output (form_seen form.now) (map layer_bytes layers.now) fault) }
 {
     if !differs_where_refused(layers, &fault) {
         return Err(fault);
     }
-    write_refused(alloc, layers, &fault, out)?;
-    Ok(Status::Negative)
+    let mut text = Vec::new(form.alloc);
+    match write_refused(form, layers, &fault, &mut text) {
+        Ok(()) => print_text(Status::Negative, &text, out),
+        // To a `Vec` only a want of memory is a fault.
+        Err(_) => Err(ToolFault::OutOfMemory),
+    }
 }
 
 #[tactic(auto, unfolding(crate::specs::Refused::refused_text))]
 fn write_refused<W: Write + Drop>(
-    alloc: Global,
+    form: &SurveyForm<'_>,
     layers: &[LayerParts<&[u8]>],
     fault: &ToolFault,
     out: &mut W,
 ) -> io::Result<()>
-    ensures { Writes W.contents out.old out.new result (refused_text (map layer_bytes layers.now) fault.now) }
+    ensures { Writes W.contents out.old out.new result (refused_text (form_seen form.now) (map layer_bytes layers.now) fault.now) }
 {
     // Without layers there are no rows, whose locales a rule would compare.
-    let no_rows = Stack::new(alloc);
-    write_layers(&no_rows, LocaleRule::LanguageAndRegion, &[], layers, out)?;
-    fault_text(fault, out)
+    let no_rows = Stack::new(form.alloc);
+    let rule = LocaleRule::LanguageAndRegion;
+    write_layers(form, &no_rows, rule, &[], layers, out)?;
+    form.write_refused(fault, out)
 }
 
 fn differs_where_refused(layers: &[LayerParts<&[u8]>], fault: &ToolFault) -> bool

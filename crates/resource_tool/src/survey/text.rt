@@ -1,13 +1,10 @@
-//! What a survey found, written.
+//! What a survey found, as text.
 
-ghost use Rattle.std.specs.List.{flat_map};
 ghost use Rattle.contract_words.specs.Writes.{Writes};
-ghost use Rattle.resource_tool.specs.Finding.{all_findings};
-ghost use Rattle.resource_tool.specs.Findings.{tally_in};
 ghost use Rattle.resource_tool.specs.SurveyText.{site_text, weight_text, tally_text, found_line, shared_line, range_text, number_text, qualifier_line, lacks_line};
 
 use crate::survey::finding::Finding;
-use crate::survey::findings::Findings;
+use crate::survey::findings::Tally;
 use crate::survey::qualifiers::Spread;
 use crate::survey::site::Site;
 use answer_text::{write_id, write_layer, write_named_coord, write_named_number};
@@ -15,49 +12,20 @@ use command_base::{Coord, Locale, SharedNames};
 use locales::write_locale;
 use std::io::{self, Write};
 
-/// Writes a line for each finding that a layer has.
-#[tactic(auto, unfolding(crate::specs::Unfolded::all_findings))]
-pub(crate) fn write_findings<W: Write + Drop>(
-    layer: usize,
-    findings: &Findings,
-    out: &mut W,
-) -> io::Result<()>
-    ensures { Writes W.contents out.old out.new result (flat_map (λ finding. found_line layer finding (tally_in findings.now finding)) all_findings) }
-{
-    write_each_finding(layer, findings, &Finding::ALL, out)
-}
-
-#[tactic(auto, using(crate::proofs::AnySteps::finds))]
-fn write_each_finding<W: Write + Drop>(
-    layer: usize,
-    findings: &Findings,
-    kinds: &[Finding],
-    out: &mut W,
-) -> io::Result<()>
-    ensures { Writes W.contents out.old out.new result (flat_map (λ finding. found_line layer finding (tally_in findings.now finding)) kinds.now) }
-{
-    for finding in kinds {
-        write_found(layer, *finding, findings, out)?;
-    }
-    Ok(())
-}
-
+/// Writes the line of a finding of a layer.
 #[tactic(auto, unfolding(crate::specs::SurveyText::found_line))]
-fn write_found<W: Write + Drop>(
+pub(crate) fn write_found<W: Write + Drop>(
     layer: usize,
     finding: Finding,
-    findings: &Findings,
+    tally: Tally,
     out: &mut W,
 ) -> io::Result<()>
-    ensures { Writes W.contents out.old out.new result (found_line layer finding (tally_in findings.now finding)) }
+    ensures { Writes W.contents out.old out.new result (found_line layer finding tally) }
 {
-    if findings.count(finding) == 0 {
-        return Ok(());
-    }
     write_weight(finding, out)?;
     write_layer(layer, out)?;
     out.write_all(b" ")?;
-    write_tally(finding, findings, out)?;
+    write_tally(finding, tally, out)?;
     out.write_all(b"\n")
 }
 
@@ -73,16 +41,12 @@ fn write_weight<W: Write + Drop>(finding: Finding, out: &mut W) -> io::Result<()
 }
 
 #[tactic(auto, unfolding(crate::specs::SurveyText::tally_text))]
-fn write_tally<W: Write + Drop>(
-    finding: Finding,
-    findings: &Findings,
-    out: &mut W,
-) -> io::Result<()>
-    ensures { Writes W.contents out.old out.new result (tally_text finding (tally_in findings.now finding)) }
+fn write_tally<W: Write + Drop>(finding: Finding, tally: Tally, out: &mut W) -> io::Result<()>
+    ensures { Writes W.contents out.old out.new result (tally_text finding tally) }
 {
-    write_named_number(finding.name(), u128::from(findings.count(finding)), out)?;
+    write_named_number(finding.name(), u128::from(tally.count), out)?;
     out.write_all(b" first ")?;
-    write_site(findings.first(finding), out)
+    write_site(tally.first, out)
 }
 
 #[tactic(auto, unfolding(crate::specs::SurveyText::site_text))]
@@ -95,17 +59,11 @@ fn write_site<W: Write + Drop>(site: Site, out: &mut W) -> io::Result<()>
     }
 }
 
-/// Writes the line of the ids whose names stand for others, where there are some.
+/// Writes the line of the ids whose names stand for others.
 #[tactic(auto, unfolding(crate::specs::SurveyText::shared_line))]
-pub(crate) fn write_shared<W: Write + Drop>(
-    shared: Option<SharedNames>,
-    out: &mut W,
-) -> io::Result<()>
+pub(crate) fn write_shared<W: Write + Drop>(shared: SharedNames, out: &mut W) -> io::Result<()>
     ensures { Writes W.contents out.old out.new result (shared_line shared) }
 {
-    let Some(shared) = shared else {
-        return Ok(());
-    };
     write_named_number("warning shared-names", shared.count as u128, out)?;
     out.write_all(b" first ")?;
     write_id(shared.first, out)?;
@@ -121,9 +79,6 @@ pub(crate) fn write_qualifier<W: Write + Drop>(
 ) -> io::Result<()>
     ensures { Writes W.contents out.old out.new result (qualifier_line coord spread) }
 {
-    if spread.count == 0 {
-        return Ok(());
-    }
     write_named_coord("qualifier", coord, out)?;
     write_named_number(" rows", u128::from(spread.count), out)?;
     write_range(coord, spread, out)?;

@@ -1,8 +1,9 @@
 use Rattle.std.proofs.Common.{drop}
-use Rattle.reference_resolver.specs.config_precedence.config_record.DeviceSeen.{device_numbers}
-use Rattle.resource_text.proofs.StyleSteps.{PutsStyles}
+use Rattle.contract_words.proofs.TextSteps.{PutsAllBut}
+use Rattle.resource_text.specs.AttrJson.{style_json}
 use Rattle.resource_text.proofs.attr_json.write_styles.Given as goal
 
-abbrev pub invariant-loop-style : goal.invariant-loop-style
-invariant-loop-style g l =
-    PutsStyles l.naming l.force l.attr.0 (device_numbers l.device) (g.W.Write.contents l.fn.out) (g.W.Write.contents l.out) l.set l.styles (drop l.style-index l.styles)
+-- the lines of all styles were written but of those that are left
+abbrev pub invariant-loop-step : goal.invariant-loop-step
+invariant-loop-step g l =
+    PutsAllBut (style_json l.naming) (g.W.Write.contents l.fn.out) (g.W.Write.contents l.out) l.steps (drop l.step-index l.steps)

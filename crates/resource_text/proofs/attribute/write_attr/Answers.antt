@@ -6,7 +6,8 @@ use Rattle.resource_text.proofs.attribute.write_attr.Goals as goal
 pub returns : goal.returns
 unfolding attr_notation
 returns g c =
-    let lines = rw (c.deref.ensures.value, c.in_ok-lines.ensures) at c.in_ok-write_columns.ensures in
+    let steps = rw (c.deref.ensures.value, c.in_ok-steps.ensures, c.stack.ensures) at c.in_ok-lines.ensures in
+    let lines = rw (c.deref-2.ensures.value, steps) at c.in_ok-write_columns.ensures in
     let to_id = Appends-trans _ _ _ _ _ c.in_ok-write_id.ensures c.in_ok-write_all.ensures.bytes in
     let to_lines = Appends-trans _ _ _ _ _ to_id lines in
     let to_slot = Appends-trans _ _ _ _ _ to_lines c.in_ok-write_slot.ensures in

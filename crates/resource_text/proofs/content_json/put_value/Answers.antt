@@ -6,7 +6,6 @@ use Rattle.serde_json.specs.View.{members_view}
 use Rattle.answer_text.specs.ContentSeen.{value_content_of}
 use Rattle.answer_text.specs.declared.content.ValueContent.{ValueContent}
 use Rattle.resource_text.specs.ContentJson.{with_value}
-use Rattle.resource_text.specs.TextJson.{number_data}
 use Rattle.resource_text.proofs.content_json.put_value.Goals as goal
 
 pub returns-in_ok-name-in-Reference : goal.returns-in_ok-name-in-Reference
@@ -26,14 +25,3 @@ returns-in_ok-name-in-Attribute c =
     (λ is.
     is ∙ ap (λ (name : Data). put (codes "attribute") name old) c.in_ok-name-in-Attribute.ensures
     ∙ sym (ap (λ (value : ValueContent). with_value c.args.packages.now (value_content_of value) old) c.in-Attribute.is)) c.put-in-Attribute.ensures.ok
-
-pub returns-in_ok-put-in-Other : goal.returns-in_ok-put-in-Other
-unfolding with_value
-returns-in_ok-put-in-Other c =
-    let old = members_view c.args.members.now.entries in
-    let kind = c.in_ok-put-in-Other.ensures.ok ∙ ap (λ (kind : Data). put (codes "kind") kind old) c.from.ensures in
-    on_ok_weaker c.put-in-Other-2.result
-    (λ is.
-    is ∙ ap (λ (word : Data). put (codes "word") word (members_view c.put-in-Other.new.map.entries)) c.from-in-Other.ensures
-    ∙ ap (put (codes "word") (number_data c.in-Other.word)) kind
-    ∙ sym (ap (λ (value : ValueContent). with_value c.args.packages.now (value_content_of value) old) c.in-Other.is)) c.put-in-Other-2.ensures.ok

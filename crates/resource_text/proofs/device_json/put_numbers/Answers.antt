@@ -1,10 +1,11 @@
 use Rattle.std.proofs.Common.{sym, ◌∙◌}
 use Rattle.std.proofs.lemmas.List.Sums.{fold_more}
+use Rattle.config_box.specs.config_record.Device.{device_coordinate}
 use Rattle.reference_resolver.specs.config_precedence.config_record.DeviceSeen.{device_numbers}
-use Rattle.resource_text.specs.DeviceJson.{with_number}
+use Rattle.resource_text.specs.ConfigJson.{with_number_of}
 use Rattle.resource_text.proofs.device_json.put_numbers.Goals as goal
 
 pub loop-coord-preserved : goal.loop-coord-preserved
 loop-coord-preserved c =
-    let put = rw c.loop-coord.invariant at c.in_ok-put_number.ensures in
-    put ∙ sym (fold_more (with_number (device_numbers c.args.device.now)) _ c.args.coords.now c.loop-coord.coord-index _ c.loop-coord-test.true)
+    let put = rw (c.loop-coord.invariant, c.get.ensures.value) at c.in_ok-put_number.ensures in
+    put ∙ sym (fold_more (with_number_of (device_coordinate (device_numbers c.args.device.now))) _ c.args.coords.now c.loop-coord.coord-index _ c.loop-coord-test.true)

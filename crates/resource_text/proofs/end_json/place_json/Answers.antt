@@ -11,9 +11,8 @@ use Rattle.resource_text.proofs.end_json.place_json.Goals as goal
 pub returns : goal.returns
 unfolding place_data
 returns c =
-    let candidate = c.args.candidate.now in
     view-Object c.put_layer.new.members
     ∙ ap object (c.in_ok-put_layer.ensures
-    ∙ ap (with_layer c.args.naming.now candidate.layer) (c.in_ok-put.ensures.ok
+    ∙ ap (with_layer c.args.naming.now c.args.layer) (c.in_ok-put.ensures.ok
     ∙ ap (λ (config : Data). put (codes "config") config (members_view c.new-members.result.entries)) c.in_ok-config.ensures
-    ∙ ap (put (codes "config") (config_data (record_bytes candidate.row.config))) (ap (λ entries. members_view entries) c.new-members.ensures.empty)))
+    ∙ ap (put (codes "config") (config_data (record_bytes c.args.config.now))) (ap (λ entries. members_view entries) c.new-members.ensures.empty)))

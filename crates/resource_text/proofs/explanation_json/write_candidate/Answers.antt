@@ -17,7 +17,7 @@ write_line-requires g c =
     let lined = ap members_have_float c.in_ok-members.ensures ∙ line-no_float (codes "candidate") in
     let decision = ap has_float c.in_ok-decision.ensures ∙ decision-no_float c.args.traced.now.decision in
     let decided = ap members_have_float c.in_ok-put.ensures.ok ∙ put-no_float (codes "decision") (view c.in_ok-decision.decision) (members_view c.in_ok-members.members.entries) decision lined in
-    let place = ap has_float c.in_ok-place.ensures ∙ place-no_float c.args.naming.now _ in
+    let place = ap has_float c.in_ok-place.ensures ∙ place-no_float c.args.naming.now _ _ in
     let placed = ap members_have_float c.in_ok-put-2.ensures.ok ∙ put-no_float (codes "from") (view c.in_ok-place.place) (members_view c.put.new.map.entries) place decided in
     let held = ap has_float c.in_ok-held.ensures ∙ end-no_float c.args.naming.now _ c.held.result in
     ap members_have_float c.in_ok-put-3.ensures.ok ∙ put-no_float (codes "holds") (view c.in_ok-held.held) (members_view c.put-2.new.map.entries) held placed
@@ -29,7 +29,7 @@ returns g c =
     let naming = c.args.naming.now in
     let traced = traced_of c.args.traced.now in
     let holds = end_data naming None (held c.args.id traced.candidate.layer traced.candidate.row.cell) in
-    let place = place_data naming traced.candidate in
+    let place = place_data naming traced.candidate.layer traced.candidate.row.config in
     let decided =
     c.in_ok-put.ensures.ok
     ∙ ap (λ (d : Data). put (codes "decision") d (members_view c.in_ok-members.members.entries)) c.in_ok-decision.ensures

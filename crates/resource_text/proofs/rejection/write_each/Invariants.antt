@@ -2,7 +2,7 @@ use Rattle.std.proofs.Common.{drop, map}
 use Rattle.std.specs.Option.{option_copied}
 use Rattle.cert_maker.specs.res_value.Goal.{goal_seen}
 use Rattle.contract_words.proofs.TextSteps.{PutsAllBut}
-use Rattle.resource_text.specs.RejectionNotation.{rejection_in}
+use Rattle.resource_text.specs.VerdictForms.{rejection_in}
 use Rattle.resource_text.proofs.rejection.write_each.Given as goal
 
 abbrev pub invariant-loop-rejection : goal.invariant-loop-rejection

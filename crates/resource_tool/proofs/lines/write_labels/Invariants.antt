@@ -1,4 +1,3 @@
-use Rattle.std.proofs.Common.{map}
 use Rattle.contract_words.proofs.TextSteps.{PutsAllBut}
 use Rattle.stack_diff.specs.names.Pairs.{pair_of}
 use Rattle.resource_tool.specs.DiffLines.{pair_lines}

@@ -1,4 +1,3 @@
-use Rattle.std.proofs.Common.{sym, append_assoc}
 use Rattle.resource_tool.specs.TreeText.{goals_line}
 use Rattle.resource_tool.proofs.show.push_count.Goals as goal
 

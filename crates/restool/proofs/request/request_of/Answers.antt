@@ -13,7 +13,7 @@ pub returns-in-Dump : goal.returns-in-Dump
 returns-in-Dump c = rw c.in-Dump.is (c.given_word-in-Dump.ensures, c.given_flag-in-Dump.ensures)
 
 pub returns-in-Map : goal.returns-in-Map
-returns-in-Map c = rw c.in-Map.is (c.given_word-in-Map.ensures, c.given_word-in-Map-2.ensures)
+returns-in-Map c = rw c.in-Map.is (c.given_word-in-Map.ensures, c.given_word-in-Map-2.ensures, c.given_answer_form.ensures)
 
 pub returns-in-Ids : goal.returns-in-Ids
 returns-in-Ids c = rw c.in-Ids.is c.given_word-in-Ids.ensures

@@ -8,4 +8,4 @@ returns-in_err-locales c =
 
 pub returns : goal.returns
 returns c =
-    let p = c.in_ok-locales.ensures in (p.0, p.1, (p.2.0, p.2.1, (p.2.2.0, c.given_word.ensures, c.given_word-2.ensures, c.given_nodes.ensures, p.2.2.1)))
+    let p = c.in_ok-locales.ensures in (p.0, p.1, (p.2.0, p.2.1, (p.2.2.0, c.given_word.ensures, c.given_word-2.ensures, c.given_line_form.ensures, c.given_nodes.ensures, p.2.2.1)))

@@ -2,7 +2,7 @@ use Rattle.std.proofs.Common.{◌≡◌, ◌∷◌, ◌++◌, length, map, Resul
 use Rattle.std.specs.Prelude.{IfOk}
 use Rattle.std.specs.List.{flat_map}
 use Rattle.std.proofs.lemmas.List.{length-map}
-use Rattle.resource_text.specs.RejectionNotation.{rejections_in, set_aside_in}
+use Rattle.resource_text.specs.VerdictForms.{rejections_in, set_aside_in}
 use Rattle.resource_text.specs.cert_maker.res_value.Goal.{goal_seen}
 use Rattle.resource_text.specs.declared.rejection.Rejection.{Rejection}
 use Rattle.resource_text.specs.cert_maker.cert_tree.Certificate.{goal_of}

@@ -13,8 +13,8 @@ returns-in_err-files-clause-answers g c =
     let out = c.args.out.now in
     let p = err_from_is_err_and c.from_residual.result c.from_residual.ensures.1 in
     rw (p.1, p.2, ← c.deref.ensures.value) (
-    read_stops (λ (asks : OpenUnusedOf) done. PrintsOneOf (IsUnusedOutput asks.asked unused.max_nodes) g.W.Write.contents out out done (Ok asks.opened))
-    (λ files. unused_opened unused.locales files.layers files.box_json files.words)
+    read_stops (λ (asks : OpenUnusedOf) done. PrintsOneOf (IsUnusedOutput unused.form asks.paths asks.asked unused.max_nodes) g.W.Write.contents out out done (Ok asks.opened))
+    (unused_opened unused.locales)
     (g.I.Inputs.places c.args.inputs.now) (λ places. asked_box_files places unused.layers.now unused.box_path.now (map (λ word. word.now) c.deref.result.now))
     c.in_err-files.field-0.0 c.in_err-files.ensures
     )

@@ -42,7 +42,8 @@ returns g c =
     let asked = option_map (λ ids. ids.items) c.in_ok-asked.asked in
     let words = rw c.deref.ensures.value at c.in_ok-sets.ensures in
     let found = rw c.deref-2.ensures.value at c.in_ok-asked.ensures in
-    answered (λ (unused : OpenUnusedOf). IsUnusedOutput unused.asked c.args.self.now.max_nodes) (λ unused. unused.opened) g.W.Write.contents c.args.out.now c.tell_unused.new.out
-    _ (record { opened = opened; asked = asked }) c.tell_unused.result c.status_or_stop.result
-    (unused-with c.args.self.now.locales held.layers held.box_json held.words (sets_held c.in_ok-sets.sets) opened asked words c.in_ok-opened.ensures found)
-    c.tell_unused.ensures c.status_or_stop.ensures
+    let told = rw c.paths.ensures at c.tell.ensures in
+    answered (λ (unused : OpenUnusedOf). IsUnusedOutput c.args.self.now.form unused.paths unused.asked c.args.self.now.max_nodes) (λ unused. unused.opened) g.W.Write.contents c.args.out.now c.tell.new.out
+    _ (record { opened = opened; paths = held.paths; asked = asked }) c.tell.result c.status_or_stop.result
+    (unused-with c.args.self.now.locales held (sets_held c.in_ok-sets.sets) opened asked words c.in_ok-opened.ensures found)
+    told c.status_or_stop.ensures
