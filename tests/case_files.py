@@ -3,7 +3,6 @@ import json
 import os
 import subprocess
 
-from made_layers import table_bytes
 from plain_bags import Attribute
 from plain_certificates import id_text
 from plain_rules import COORDS
@@ -30,7 +29,7 @@ class Files:
         for place, (rows, own_of) in enumerate(zip(case.tables, case.maps)):
             layers.append({"table": f"table{place}"})
             with open(os.path.join(folder, f"table{place}"), "wb") as table:
-                table.write(table_bytes(rows))
+                table.write(case.table_bytes(rows))
             if own_of is not None:
                 layers[-1]["map"] = f"map{place}"
                 self.write(f"map{place}", [[id_text(target), id_text(own)] for target, own in own_of.items()])

@@ -8,7 +8,8 @@ The cases are those of check_diff.py: of each it is asked what the change alters
 some ids end for a device of the box, and how one does. Each line has to be JSON as it is written compactly, with its members in order,
 and valid by its schema; those of one name stand in the order of their bytes. Written as text the lines have to be those that are
 printed without --json, by what they have of XML and of devices in words; and those of --raw, or without --android, by kinds, words,
-strings and names, and by devices as a box has them. The status and what stands on standard error are the same.
+strings and names, and by devices as a box has them. What a line says twice, as a configuration by its qualifiers and in words, has to
+be the same. The status and what stands on standard error are the same.
 
 The cases are numbered from FIRST on, which is 0 if it is not given. The last line counts what was compared."""
 import json
@@ -19,16 +20,17 @@ import sys
 import tempfile
 from collections import Counter, namedtuple
 from concurrent.futures import ProcessPoolExecutor
-from functools import partial
+from functools import cache, partial
 from itertools import groupby
 
 from case_words import read_words
 from check_diff import CASES_OF_A_JOB, SHOWN, Case, write
 from check_schemas import SCHEMAS, is_valid
-from json_of_device import Notation, Raw, explain_text, ids_of, query_text
+from json_of_device import Notation, Raw, explain_text, query_text, record_text
 from plain_certificates import id_text
-from plain_diff import OF_ATTRIBUTES, word_read
+from plain_diff import ATTRIBUTE, OF_ATTRIBUTES, REFERENCE, STRING, word_read
 from plain_names import said_text
+from plain_notation import config_of, formats_text, xml_text as notation_of
 from plain_rules import COORDS, value_text
 
 RAW_KEYS = {word: id_text(name) for name, word in OF_ATTRIBUTES.items()}
@@ -84,6 +86,64 @@ def set_text(values):
 
 FORMS = {(): Form(key_text, xml_text, devices_in_words), ("--raw",): Form(raw_key, raw_value, raw_devices)}
 """By the words that ask for them."""
+
+
+# ---- what is said twice
+
+
+def parts_with(name, said):
+    """The objects in a part of a line that have this member."""
+    if isinstance(said, list):
+        return [part for each in said for part in parts_with(name, each)]
+    return [said] * (name in said) + parts_with(name, [*said.values()]) if isinstance(said, dict) else []
+
+
+def texts_due(value):
+    """The texts that may stand at `xml`."""
+    if "string" in value:
+        return {said_text(value["string"], is_utf16) for is_utf16 in (False, True)}
+    if "kind" in value:
+        return {notation_of(value["kind"], value["word"]), formats_text(value["kind"], value["word"])}
+    if "reference" in value:
+        return {"@null" if value["reference"] == id_text(0) else f"@{value['reference']}"}
+    return {f"?{value['attribute']}" if "attribute" in value else value.get("garbled") or value["broken"]}
+
+
+def is_stored(value):
+    """Whether what is told of a value can be told of the kind and the word that its row holds."""
+    kind, word = value["stored"]["kind"], value["stored"]["word"]
+    if "kind" in value:
+        return (value["kind"], value["word"]) == (kind, word_read(kind, word))
+    if "broken" in value:
+        return kind == STRING and value["broken"].endswith(f" {word}")
+    return kind == (REFERENCE if "reference" in value else ATTRIBUTE if "attribute" in value else STRING)
+
+
+def is_one_value(value):
+    return value["xml"] in texts_due(value) and ("stored" not in value or is_stored(value))
+
+
+def is_one_layer(place, paths):
+    """Whether a path is that of its layer, where there is one."""
+    return place.get("path") == (paths[place["layer"]] if place["layer"] < len(paths) else None)
+
+
+def names_in(lines):
+    """Each name that stands for an id, with that."""
+    named = {(part["name"], part["id"]) for part in parts_with("id", lines) if "name" in part}
+    stored = ((value, id_text(value["stored"]["word"])) for value in parts_with("stored", lines))
+    return named | {(value[name], own) for value, own in stored for name in ("reference", "attribute") if name in value}
+
+
+def faults_of_parts(lines, paths=()):
+    """Values, configurations and layers whose members say different things, and names that stand for two ids, or ids with two."""
+    parts = [value for value in parts_with("xml", lines) if not is_one_value(value)]
+    parts += [config for config in parts_with("qualifiers", lines) if config_of(record_text(config)) != config["words"]]
+    parts += [place for place in parts_with("layer", lines) if not is_one_layer(place, paths)]
+    pairs = names_in(lines)
+    for ends in zip(*pairs):
+        parts += [f"{end}, of {sorted(pairs)}," for end, count in Counter(ends).items() if count > 1]
+    return [f"{part} says different things" for part in parts]
 
 
 # ---- a line as text
@@ -169,6 +229,7 @@ def faults_of(schema, printed, as_text):
     if faults:
         return faults, []
     faults = [f"{group} in another order" for group in of_names(lines) if group != sorted(group, key=written)]
+    faults += faults_of_parts(lines)
     for words, due in as_text.items():
         text = all_text(FORMS[words], lines)
         if text != due.text:
@@ -186,6 +247,7 @@ def run(program, folder, words):
     return Printed(done.stdout.decode(), done.stderr.decode(), done.returncode)
 
 
+@cache
 def schema_of(command):
     with open(os.path.join(SCHEMAS, f"{command}-line.json")) as schema:
         return json.load(schema)
@@ -210,6 +272,8 @@ class Asked:
         case.write(folder)
         self.chance = random.Random(number)
         device = self.chance.choice(case.members)
+        with open(os.path.join(folder, "new")) as layers:
+            self.paths = [layer["table"] for layer in json.load(layers)]
         write(folder, "device", json.dumps({name: value for name, value in device.items() if value}).encode())
         self.run = lambda command, *words: run(program, folder, [command, *case.options, *words])
         self.names = [line.split(" ")[0] for line in run(program, folder, ["ids", "new"]).text.split("\n")[:-1]]
@@ -226,8 +290,8 @@ class Asked:
         lines, faults = read_lines(schema_of(command), printed.text)
         if faults:
             return faults, []
-        every, _ = read_lines(schema_of("query"), self.run("query", "--json", *words[:2], "*").text)
-        for form in (Raw(ids_of(every + lines)), Notation(False), Notation(True)):
+        faults = faults_of_parts(lines, self.paths)
+        for form in (Raw(), Notation(False), Notation(True)):
             due = self.run(command, *(form.words if command == "explain" else form.words[:1]), *words)
             text, wanted = text_of(form, lines), form.as_read(due.text.split("\n")[:-1])
             faults += [f"{words} {form.words} {text}, where {wanted} is due"[:SHOWN]] * (text != wanted)

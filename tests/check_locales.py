@@ -61,6 +61,7 @@ class WorkedCase:
     """A layer of these rows of an id."""
 
     options = LocaleCase.options
+    table_bytes = staticmethod(LocaleCase.table_bytes)
 
     def __init__(self, rows):
         self.layers = layers_of(rows)

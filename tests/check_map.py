@@ -1,5 +1,5 @@
 #!/usr/bin/env python3
-"""Holds what `restool map` prints of random tables against a plain reading of its rules (plain_map.py):
+"""Holds what `restool map` prints of random tables, as text and as JSON, against a plain reading of its rules (plain_map.py):
 
     check_map.py PROGRAM CASES [JOBS [FIRST]]
 
@@ -13,14 +13,22 @@ import tempfile
 from concurrent.futures import ProcessPoolExecutor
 
 from named_tables import Table
-from plain_map import lines_of, made_map, map_text
+from check_json import read_lines, schema_of
+from plain_map import json_text, lines_of, made_map, map_text
 
 
 def wanted(target, overlay):
-    """What is printed to both streams, and the status."""
+    """What is printed to both streams and the status, without --json and with it; and how many pairs the map has."""
     own_of = made_map(target.rows, overlay.rows)
     lines = "".join(f"{line}\n" for line in lines_of(overlay.rows, own_of))
-    return map_text(own_of).encode(), lines.encode(), int(lines != ""), len(own_of)
+    status = int(lines != "")
+    as_json = json_text(overlay.rows, own_of)
+    return {(): (map_text(own_of).encode(), lines.encode(), status), ("--json",): (as_json.encode(), b"", status)}, len(own_of)
+
+
+def asked(program, folder, form):
+    done = subprocess.run([program, "map", *form, "target", "overlay"], cwd=folder, capture_output=True)
+    return done.stdout, done.stderr, done.returncode
 
 
 def check_case(program, number):
@@ -31,11 +39,10 @@ def check_case(program, number):
         for name, table in (("target", target), ("overlay", overlay)):
             with open(os.path.join(folder, name), "wb") as out:
                 out.write(table.bytes)
-        done = subprocess.run([program, "map", "target", "overlay"], cwd=folder, capture_output=True)
-    text, lines, status, pairs = wanted(target, overlay)
-    said = done.stdout, done.stderr, done.returncode
-    fault = "" if said == (text, lines, status) else f"case {number}: {said}, wanted {(text, lines, status)}"
-    return fault, pairs, lines.count(b"\n")
+        due, pairs = wanted(target, overlay)
+        faults = [f"case {number}: {said}, wanted {due[form]}" for form in due if (said := asked(program, folder, form)) != due[form]]
+    faults += read_lines(schema_of("map"), due["--json",][0].decode())[1]
+    return "\n".join(faults), pairs, due[()][1].count(b"\n")
 
 
 def main():

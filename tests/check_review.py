@@ -1,6 +1,6 @@
 #!/usr/bin/env python3
-"""Holds the pages of tools/review.py against the lines of `restool diff --json`: a page says what they say, and nothing
-else.
+"""Holds the pages of tools/review.py against the lines of `restool diff --json`, and of `restool unused --json` of the new layers: a
+page says what they say, of the second what overlays are about, and nothing else.
 
     check_review.py [--locales android] PROGRAM CASES [JOBS [FIRST]]
 
@@ -13,7 +13,7 @@ import re
 import subprocess
 import sys
 import tempfile
-from collections import namedtuple
+from collections import Counter, namedtuple
 from concurrent.futures import ProcessPoolExecutor
 from functools import partial
 from html.parser import HTMLParser
@@ -23,10 +23,12 @@ from case_words import read_words
 from check_diff import Case, write_inputs
 from made_layers import NamedTable, Resource, Text, ids_of
 from plain_bags import Bag
+from plain_map import made_map
 from plain_rules import Record
 
 REVIEW = os.path.join(os.path.dirname(os.path.abspath(__file__)), "..", "tools", "review.py")
 CHANGES = "changed", "added", "removed"
+USES = "unused", "overlaid", "unmapped"
 NONE = {"absent": "absent", "tooManyReferences": "too many references", "tooManyParents": "too many parents"}
 COUNTED = {
     "shared-names": "ids with a name that stands for another id; they are compared by ids, which may have moved",
@@ -37,14 +39,21 @@ NODE_LIMIT = (
     " --max-nodes, ask for fewer names, or make the box smaller."
 )
 
+ABOUT_ROWS = (
+    "Rows of overlays, and rows that overlays hide. unused: no device loads it; overlaid: some device would load it without the overlays;"
+    " unmapped: the id map of its overlay has it for no resource."
+)
+
+LIMIT = {"line": "node limit"}
+
 Asked = namedtuple("Asked", "options words")
 """What a page is asked for: options, and the words OLD, NEW, BOX and NAMEs."""
 
 # ---- a page, read
 
 VOID = {"input", "meta"}
-BLOCKS = set("title h1 p li dt dd legend label button th td summary".split())
-OTHERS = set("html head body style ul dl form fieldset main table thead tbody tr details code span small b".split())
+BLOCKS = set("title h1 h2 p li dt dd legend label button th td summary".split())
+OTHERS = set("html head body style ul dl form fieldset main section table thead tbody tr details code span small b".split())
 MARKS = {"ins", "del"}
 ELEMENTS = VOID | BLOCKS | OTHERS | MARKS
 ATTRIBUTES = set("aria-label autocomplete charset checked class colspan content data-codes dir disabled".split())
@@ -167,7 +176,19 @@ def type_of(name):
 
 
 def locales_of(line):
+    if line["line"] in USES:
+        own = line["from"]["config"]["qualifiers"].get("locale")
+        return [own] if own else []
     return line["says"]["devices"].get("locale", []) if line["line"] == "changed" else []
+
+
+def is_with(line, locale):
+    """Whether a line is shown with a locale: a row with each of its language, and of its region, if it has one."""
+    own = locales_of(line)
+    if not own or locale in own or line["line"] not in USES:
+        return not own or locale in own
+    (row_language, *row_region), (language, *others) = own[0].split("-"), locale.split("-")
+    return row_language == language and row_region in ([], others[-1:])
 
 
 def with_count(number, word):
@@ -183,15 +204,20 @@ def word_text(word):
     return UNSEEN.sub(lambda found: f"\\x{ord(found[0]):02x}" if found[0] < "\x80" else f"\\u{ord(found[0]):04x}", word)
 
 
-def filters_blocks(changes):
-    kinds, types = ([of(line) for line in changes] for of in (lambda it: it["line"], lambda it: type_of(it["name"])))
-    locales = [locales_of(line) for line in changes]
+def rows_shown(rows):
+    """The rows that the page has: those of overlays, and then those that overlays hide."""
+    return [row for row in rows[:-1] if row["overlay"]] + [row for row in rows[:-1] if row["line"] == "overlaid"]
+
+
+def filters_blocks(changes, rows):
+    lines = changes + rows
+    kinds, types = ([of(line) for line in lines] for of in (lambda it: it["line"], lambda it: type_of(it["name"])))
+    locales = {locale for line in lines for locale in locales_of(line)}
     yield from ("Change", *(f"{kind} {kinds.count(kind)}" for kind in CHANGES))
+    yield from ("Row", *(f"{kind} {kinds.count(kind)}" for kind in USES)) if rows else ()
     yield from ("Type", *(f"{name} {types.count(name)}" for name in sorted(set(types))))
-    if any(locales):
-        yield from ("Devices with the locale", f"any {len(changes)}")
-    for locale in sorted({locale for of_line in locales for locale in of_line}):
-        yield f"{locale or 'no locale'} {sum(not of_line or locale in of_line for of_line in locales)}"
+    yield from ("Devices with the locale", f"any {len(lines)}") if locales else ()
+    yield from (f"{locale or 'no locale'} {sum(is_with(line, locale) for line in lines)}" for locale in sorted(locales))
     yield "Show all"
 
 
@@ -201,7 +227,7 @@ def head_blocks(asked, lines):
     yield from (f"What changes: {old} → {new}", "What changes", "Before", old, "After", new, "Devices", box)
     yield from (["Names", " ".join(names)] if names else [])
     yield from ("Locales", rule)
-    if lines == [{"line": "node limit"}]:
+    if lines == [LIMIT]:
         return
     kinds = [line["line"] for line in lines]
     names = {line["name"] for line in lines if line["line"] == "changed"}
@@ -212,22 +238,54 @@ def head_blocks(asked, lines):
             yield f"{line['line']}: {COUNTED[line['line']]}: {line['old']} before, {line['new']} after"
 
 
-def blocks_due(asked, lines):
+def changes_blocks(changes):
+    yield from ("Name", "Before", "After", "Devices")
+    yield from (text for line in changes for text in line_blocks(line))
+    yield ""
+
+
+def row_blocks_of(row):
+    """The cells of a row that no device loads."""
+    place, bag = row["from"], row.get("bag", {})
+    parent = f", parent {bag['parent']['name']}" if "parent" in bag else ""
+    said = row["value"]["xml"] if "value" in row else f"a bag of {with_count(bag['rows'], 'row')}{parent}"
+    layer = word_text(place["path"]) if "path" in place else f"layer {place['layer']}"
+    return [row["name"], said, f"{place['config']['words']} in {layer}", row["line"]]
+
+
+def rows_blocks(rows):
+    """Those of all rows, and of the totals before them."""
+    totals, of_overlays = rows[-1], sum(row["line"] == "unused" and row["overlay"] for row in rows[:-1])
+    others = totals["unused"] - of_overlays
+    yield from ("Rows that no device loads", ABOUT_ROWS, with_count(totals["count"], "row"), f"{of_overlays} unused of overlays")
+    yield from (f"{others} unused of other layers, not listed", f"{totals['overlaid']} overlaid", f"{totals['unmapped']} unmapped")
+    yield from (f"{with_count(totals['bytes'], 'byte')} of unused rows", "Name", "Value", "Row", "Use")
+    yield from (text for row in rows_shown(rows) for text in row_blocks_of(row))
+    yield ""
+
+
+def blocks_due(asked, lines, rows, why):
     """The blocks of the page."""
     yield from head_blocks(asked, lines)
-    changes = changes_of(lines)
-    if changes:
-        yield from (*filters_blocks(changes), "Name", "Before", "After", "Devices")
-        yield from (text for line in changes for text in line_blocks(line))
-        yield ""
-    else:
-        yield NODE_LIMIT if lines == [{"line": "node limit"}] else "Nothing differs on any device."
+    if lines == [LIMIT]:
+        yield NODE_LIMIT
+        return
+    changes, shown = changes_of(lines), rows_shown(rows)
+    yield from filters_blocks(changes, shown) if changes or shown else ()
+    yield from changes_blocks(changes) if changes else ["Nothing differs on any device."]
+    if why:
+        yield from ("Rows that no device loads", why)
+    elif shown:
+        yield from rows_blocks(rows)
+
 
 # ---- what is marked, colored and chosen
 
 
 def values_of(line):
     """The values of a line in the order of the page, each alone, or with the one that it is compared with."""
+    if line["line"] in USES:
+        return [[line["value"]]] if "value" in line else []
     says = line.get("says")
     if not says:
         return []
@@ -269,34 +327,37 @@ def rule_due(own):
     """The rule of style that hides what is not chosen."""
     if own.startswith("locale-"):
         return f"body:has(#{own}:checked) .change:not(.{own}, .everywhere) {{ display: none }}\n"
-    group = "kinds" if own in CHANGES else "types"
+    group = "kinds" if own in (*CHANGES, *USES) else "types"
     return f"body:has(.{group} :checked):not(:has(#{own}:checked)) .change.{own} {{ display: none }}\n"
 
 
-def faults_of_filters(page, changes):
+def faults_of_filters(page, lines):
     """Each line has the classes of its kind, its type and its locales, and for each class a rule hides others."""
     named = {"type": {}, "locale": {}}
     for own, place in page.inputs.items():
         named.get(own.partition("-")[0], {})[page.blocks[place].rpartition(" ")[0]] = own
-    for classes, line in zip_longest(page.lines, changes):
-        locales = {named["locale"][locale or "no locale"] for locale in locales_of(line)} or {"everywhere"}
+    listed = sorted({locale for line in lines for locale in locales_of(line)})
+    for classes, line in zip_longest(page.lines, lines):
+        own = [locale for locale in listed if is_with(line, locale)] if locales_of(line) else []
+        locales = {named["locale"][locale or "no locale"] for locale in own} or {"everywhere"}
         if classes != {"change", line["line"], named["type"][type_of(line["name"])], *locales}:
             yield f"the classes {classes} of {line['name']}"
     yield from (f"no rule for {own}" for own in page.inputs.keys() - {"any"} if rule_due(own) not in page.style)
 
 
-def faults_of_page(asked, lines, text):
-    page, due = Page(text), list(blocks_due(asked, lines))
+def faults_of_page(asked, lines, rows, why, text):
+    page, due = Page(text), list(blocks_due(asked, lines, rows, why))
     yield from page.faults
     if page.blocks != due:
         at = next(place for place, (told, it) in enumerate(zip_longest(page.blocks, due)) if told != it)
         yield f"the page says {page.blocks[at : at + 9]}, where this is due: {due[at : at + 9]}"
         return
-    values = [value for line in changes_of(lines) for value in values_of(line)]
+    shown = changes_of(lines) + rows_shown(rows)
+    values = [value for line in shown for value in values_of(line)]
     yield from faults_of_marks(page.strings, [group for group in map(texts_of, values) if group])
     if page.colors != [color_due(it) for group in values for it in group if it.get("kind") in (28, 29, 30, 31)]:
         yield f"the colors {page.colors}"
-    yield from faults_of_filters(page, changes_of(lines))
+    yield from faults_of_filters(page, shown)
 
 
 # ---- the program, and a page of what it says
@@ -311,18 +372,42 @@ def review(folder, program, asked):
     return run(folder, sys.executable, REVIEW, "--restool", program, *asked.options, *asked.words)
 
 
+def answer(folder, program, asked, command, words):
+    """The lines that the program prints, its messages and its status."""
+    said, messages, status = run(folder, program, command, "--json", *asked.options, "--", *words)
+    return [json.loads(line) for line in said.split("\n")[:-1]], messages, status
+
+
+def has_overlays(folder, layers):
+    if "+" in layers:
+        return True
+    with open(os.path.join(folder, layers), encoding="utf-8") as listed:
+        return any("map" in layer for layer in json.load(listed))
+
+
+def answer_about_rows(folder, program, asked, lines):
+    """The rows, why there are none, and the messages and the status of the page."""
+    if lines == [LIMIT] or not has_overlays(folder, asked.words[1]):
+        return [], "", "", int(lines == [LIMIT])
+    rows, messages, status = answer(folder, program, asked, "unused", asked.words[1:])
+    if rows == [LIMIT]:
+        return [], NODE_LIMIT, "", 1
+    return (rows, "", messages, 0) if rows else ([], messages.strip(), "", 0) if status == 1 else ([], "", messages, status)
+
+
 def faults_of_review(folder, program, asked):
     """How a page, its messages and its status are others than due by what the program prints; and its lines."""
-    said, messages, status = run(folder, program, "diff", "--json", *asked.options, "--", *asked.words)
-    text, told, ended = review(folder, program, asked)
-    lines = [json.loads(line) for line in said.split("\n")[:-1]]
-    due = int(lines == [{"line": "node limit"}]) if lines else status
-    faults = [] if (told, ended) == (messages, due) else [f"status {ended} and {told}, not {due} and {messages}"]
+    lines, messages, status = answer(folder, program, asked, "diff", asked.words)
+    rows, why = [], ""
     if lines:
-        faults += faults_of_page(asked, lines, text)
+        rows, why, messages, status = answer_about_rows(folder, program, asked, lines)
+    text, told, ended = review(folder, program, asked)
+    faults = [] if (told, ended) == (messages, status) else [f"status {ended} and {told}, not {status} and {messages}"]
+    if lines and status < 2:
+        faults += faults_of_page(asked, lines, rows, why, text)
     elif text:
         faults.append("a page where the program says nothing")
-    return faults, lines
+    return faults, lines, rows
 
 
 def write_program(folder, text):
@@ -334,11 +419,16 @@ def write_program(folder, text):
     return path
 
 
-def program_of_lines(folder, lines, status=1):
-    """A program that prints these lines."""
-    with open(os.path.join(folder, "lines"), "w", encoding="utf-8") as out:
+def write_lines(folder, name, lines):
+    with open(os.path.join(folder, name), "w", encoding="utf-8") as out:
         out.writelines(f"{json.dumps(line, ensure_ascii=False)}\n" for line in lines)
-    return write_program(folder, f"cat lines\nexit {status}")
+
+
+def program_of_lines(folder, lines, rows=None, status=1):
+    """A program that prints these lines of changes, and of rows."""
+    write_lines(folder, "lines", lines)
+    write_lines(folder, "rows", rows or [totals()])
+    return write_program(folder, f"if [ $1 = unused ]; then cat rows; else cat lines; exit {status}; fi")
 
 
 # ---- written lines
@@ -402,14 +492,41 @@ WRITTEN = [
     {"line": "set-aside", "new": 0, "old": 3},
     {"count": 14, "line": "same"},
 ]
-WORDS = f"{MARKUP}.apk", f"new\n\u202e{MARKUP}", "<b>box</b>", MARKUP, "*"
+WORDS = f"{MARKUP}.apk", f"new\n\u202e+{MARKUP}", "<b>box</b>", MARKUP, "*"
+SAME = [{"count": 1, "line": "same"}]
+
+
+def totals(**counts):
+    return {"bytes": 0, "count": 0, "line": "rows", "overlaid": 0, "unmapped": 0, "unused": 0, **counts}
+
+
+def unused_row(use, held, overlay=True, name="string/s", locale=None, path=f"{MARKUP}.apk"):
+    """A row that no device loads; of an overlay, or of a base."""
+    config = {"qualifiers": {"locale": locale} if locale else {}, "words": MARKUP}
+    place = {"config": config, "layer": 1, **({"path": path} if path else {})}
+    return {"from": place, "id": "0x7f010000", "line": use, "name": name, "overlay": overlay, **held}
+
+
+BAGS = {"rows": 1}, {"parent": {"id": "0x7f010000", "name": MARKUP}, "rows": 0}
+ROWS = [
+    unused_row("unused", {"value": string("of a base")}, overlay=False),
+    unused_row("overlaid", {"value": VALUES[0]}, overlay=False, name=f"{QUOTED}/{QUOTED}"),
+    *(unused_row("unused", {"value": {**value, "stored": {"kind": 3, "word": 0}}}, name=f"string/{QUOTED}") for value in VALUES),
+    *(unused_row("unmapped", {"bag": bag}, name="style/s", path=path) for bag in BAGS for path in (None, "a\nb")),
+    *(unused_row("unused", {"value": SHORT}, locale=locale) for locale in ("de", "de-AT", "fr-CA", "x80ff0000", "-US", "zh-TW")),
+    totals(count=40, unused=20, overlaid=1, unmapped=4, bytes=1),
+]
+LOCALES = {"locale": ["", "de-AT", "de-DE", "fr", "sr-Latn-RS", "zh-Hant-TW", "zh-Hant"]}
+FOR_LOCALES = changed("string/s", CONTENTS[0], CONTENTS[1], {"devices": LOCALES, "on": "de"})
 
 
 def faults_of_written(folder):
     for asked in (Asked((), WORDS), Asked(("--locales", "android", "--max-nodes", "7"), WORDS[:3])):
-        yield from faults_of_review(folder, program_of_lines(folder, WRITTEN), asked)[0]
-    for lines in ([{"count": 1, "line": "same"}], [{"line": "removed", "name": "a/b"}, {"count": 0, "line": "same"}]):
-        yield from faults_of_review(folder, program_of_lines(folder, lines), Asked((), WORDS[:3]))[0]
+        for rows in (None, ROWS, [LIMIT]):
+            yield from faults_of_review(folder, program_of_lines(folder, WRITTEN, rows), asked)[0]
+    for lines in (SAME, [{"line": "removed", "name": "a/b"}, *SAME], [FOR_LOCALES, *SAME], [LIMIT]):
+        for rows in (None, ROWS, [LIMIT]):
+            yield from faults_of_review(folder, program_of_lines(folder, lines, rows), Asked((), WORDS[:3]))[0]
 
 
 # ---- a table in which names and texts are markup
@@ -424,16 +541,24 @@ def marked_up(text, tint):
         Resource("color", f"<s>{text}", [(Record({}), tint)]),
         Resource("color", "c", [(Record({}), f"@color/<s>{text}")]),
     ]
-    return [(NamedTable(resources, ids_of(resources)), None)]
+    return NamedTable(resources, ids_of(resources))
+
+
+def laid_over(base, overlay):
+    return [(base, None), (overlay, made_map(base.rows, overlay.rows))]
 
 
 def faults_of_table(folder, program):
+    """Of a table, of another one in its place, and of that one over it."""
     box = {"density": [160], "locale": ["", "de"], "sdk": [27]}
-    write_inputs(folder, marked_up("before", (0x1C, 0x80FFFFFF)), marked_up("after", (0x1D, 0xFF000000)), box)
-    faults, lines = faults_of_review(folder, program, Asked((), ("old", "new", "box")))
-    yield from faults
-    if [line["line"] for line in lines].count("changed") != 4:
-        yield f"the table of markup: {lines}"
+    before, after = marked_up("before", (0x1C, 0x80FFFFFF)), marked_up("after", (0x1D, 0xFF000000))
+    for new, due in (([(after, None)], {"changed": 4}), (laid_over(before, after), {"changed": 3, "overlaid": 6, "unmapped": 1})):
+        write_inputs(folder, [(before, None)], new, box)
+        faults, lines, rows = faults_of_review(folder, program, Asked((), ("old", "new", "box")))
+        yield from faults
+        told = Counter(line["line"] for line in lines + rows_shown(rows) if line["line"] in due)
+        if told != due:
+            yield f"the table of markup: {lines}, {rows}"
 
 
 # ---- what is marked
@@ -483,7 +608,15 @@ ENDS = [
     ((), ("absent", "new", "box"), 5),
 ]
 """What is asked of an app alone, and the status."""
-SAME = [{"count": 1, "line": "same"}]
+OF_ROWS = [
+    ("exit 4", False, 4),
+    ("exit 1", False, 1),
+    ("cat rows; kill -9 $$", False, 1),
+    ("cat lines", True, 1),
+    ("cat rows rows", True, 1),
+    ("cat rows lines", True, 1),
+    ("""echo '{"line":"unused"}'; cat rows""", True, 1),
+]
 PROGRAMS = [
     ("cat lines; kill -9 $$", False, 1),
     ("cat lines; exit 4", False, 4),
@@ -493,12 +626,13 @@ PROGRAMS = [
     ("cat lines; cat lines", True, 1),
     ("echo 5", True, 1),
     (r"printf '{\"line\":\"same\",\"count\":\377}\n'", True, 1),
+    *((f"if [ $1 = diff ]; then cat lines; else {text}; fi", is_told, due) for text, is_told, due in OF_ROWS),
 ]
 """Programs of which there is no page: what they do, whether a message says that there is none, and the status."""
 
 
 def faults_of_ends(folder, program):
-    layers = marked_up("a", (0x10, 0))
+    layers = [(marked_up("a", (0x10, 0)), None)]
     write_inputs(folder, layers, layers, {"density": [160], "locale": ["", "de"]})
     for options, words, due in ENDS:
         asked = Asked(options, words)
@@ -523,12 +657,13 @@ def faults_of_programs(folder):
 def faults_of_words(folder):
     """The program is asked what the page is asked for."""
     program_of_lines(folder, SAME)
-    program = write_program(folder, "printf '%s\\n' \"$@\" >words; cat lines")
-    asked = Asked(("--locales", "android", "--max-nodes", "7"), ("old", "new", "box", "a/b", "c/*"))
+    program = write_program(folder, "printf '%s\\n' \"$@\" >>words; if [ $1 = diff ]; then cat lines; else cat rows; fi")
+    asked = Asked(("--locales", "android", "--max-nodes", "7"), ("old", "new+over", "box", "a/b", "c/*"))
     review(folder, program, asked)
     with open(os.path.join(folder, "words"), encoding="utf-8") as words:
         told = words.read().splitlines()
-    if told != ["diff", "--json", *asked.options, "--", *asked.words]:
+    both = (("diff", asked.words), ("unused", asked.words[1:]))
+    if told != [word for command, words in both for word in (command, "--json", *asked.options, "--", *words)]:
         yield f"the program is asked for {told}"
 
 

@@ -4,9 +4,10 @@
     check_schemas.py PROGRAM [SCHEMA..]
 
 for each schema, or for those that are named: layers, id-map, device, box, certificate, diff-line, values-line, query-line,
-explain-line, check-line, bag-line, attr-line. Texts that a schema judges as restool does stand in ALIKE with the fault that restool tells, none where the text is accepted. In BEYOND are texts
-that restool refuses for what a schema can't say, and in AS_PHONE those of them that it reads with `--locales android`. In LINES are
-the lines, and what is none; what restool prints of random cases check_json.py looks at. The last line is the number of texts."""
+explain-line, check-line, bag-line, attr-line, unused-line, survey-line, map-line. Texts that a schema judges as restool does stand
+in ALIKE with the fault that restool tells, none where the text is accepted. In BEYOND are texts that restool refuses for what a
+schema can't say, and in AS_PHONE those of them that it reads with `--locales android`. In LINES are the lines, and what is none;
+what restool prints of random cases check_json.py looks at. The last line is the number of texts."""
 import json
 import os
 import re
@@ -35,6 +36,7 @@ def is_integer(value):
 
 
 TYPES = {
+    "boolean": lambda value: isinstance(value, bool),
     "array": lambda value: isinstance(value, list),
     "object": lambda value: isinstance(value, dict),
     "string": lambda value: isinstance(value, str),
@@ -418,13 +420,21 @@ def rows(listed):
     return changed(f'{DEVICES},"rows":[{listed}]')
 
 
-ROW = '{"config":{"qualifiers":{"density":320,"sdk":4},"word":"xhdpi-v4"},"layer":0,"path":"app.apk"}'
-CLAIMED = f'{{"from":{{"layer":1,"path":"theme.apk"}},"value":{DIMENSION}}}'
+def stored(value):
+    """A value with what its row holds."""
+    return value[:-1] + ',"stored":{"kind":5,"word":3329}}'
+
+
+ROW = '{"config":{"qualifiers":{"density":320,"sdk":4},"words":"xhdpi-v4"},"layer":0,"path":"app.apk"}'
+TOLD_LAYER = '{"layer":1,"path":"theme.apk"}'
+RESOURCE = '{"id":"0x7f010000","name":"dimen/handle"}'
+HELD = stored(DIMENSION)
+CLAIMED = f'{{"from":{TOLD_LAYER},"value":{HELD}}}'
 
 
 def rejected(before="", between=""):
     """A line of `check` that says this too."""
-    return f'{{{before}"goal":0,"line":"rejected",{between}"node":0,"rule":"N8","ruleName":"OtherValue"}}'
+    return f'{{{before}"line":"rejected",{between}"node":0,"place":0,"rule":"N8","ruleName":"OtherValue"}}'
 
 
 def shown(*ends):
@@ -433,19 +443,24 @@ def shown(*ends):
     return f'"devices":[{listed}],'
 
 
-def styled(members):
-    """The line of a style that sets the attribute first."""
-    return f'{{"decision":"first","id":"0x7f010000",{members}}}'
+def styled(did, words, members=""):
+    """The line of a style that does this."""
+    return f'{{"decision":{{"did":"{did}","words":"{words}"}},"id":"0x7f010000",{members}"line":"style","name":"style/A"}}'
 
 
 def bag_row(key, value):
     """A line of `bag` that says this."""
-    return f'{{"id":"0x7f010000","key":{key},"layer":0,"line":"row","path":"app.apk","value":{value}}}'
+    return f'{{"from":{TOLD_LAYER},"id":"0x7f010000","key":{key},"line":"row","value":{value}}}'
+
+
+def row(members, line="unused"):
+    """A line of `unused` of a row that has this."""
+    return f'{{"from":{ROW},"id":"0x7f010000","line":"{line}","name":"dimen/handle","overlay":true,{members}}}'
 
 
 def placed(qualifiers):
     """A line of `query` whose row has these qualifiers."""
-    return ended(f'"from":{{"config":{{"qualifiers":{qualifiers},"word":"xhdpi-v4"}},"layer":0}},"value":{DIMENSION}')
+    return ended(f'"from":{{"config":{{"qualifiers":{qualifiers},"words":"xhdpi-v4"}},"layer":0}},"value":{HELD}')
 
 
 def ended(members):
@@ -453,12 +468,24 @@ def ended(members):
     return f'{{"end":{{{members}}},"id":"0x7f010000","line":"end","name":"dimen/handle"}}'
 
 
-def decided(decision, held=f'{{"value":{REFERENCE}}}'):
+def decided(decision, held=f'{{"value":{stored(REFERENCE)}}}'):
     """A line of `explain` of a candidate that does this."""
     return f'{{"decision":{{{decision}}},"from":{ROW},"holds":{held},"line":"candidate"}}'
 
 
 LOOK_UP = '{"id":"0x7f010000","line":"look-up","name":"dimen/handle"}'
+
+
+LAYER_0 = '{"layer":0,"path":"app.apk"}'
+
+
+def found(name, first, warning, layer=LAYER_0):
+    """A finding of a survey, and where the first is."""
+    return f'{{"count":1,"finding":"{name}","first":{first},"from":{layer},"line":"finding","warning":{warning}}}'
+
+
+def spread(greatest, least, name):
+    return f'{{"greatest":{greatest},"least":{least},"line":"qualifier","qualifier":"{name}","rows":2}}'
 
 
 LINES = {
@@ -538,25 +565,28 @@ LINES = {
         (rows(f'{{"after":{DIMENSION},"key":0}}'), False),
     ],
     "query-line": [
-        *((ended(f'"from":{ROW},"value":{value}'), True) for value in (DIMENSION, STRING, GARBLED, BROKEN, ATTRIBUTE)),
-        (ended(f'"bag":"style/Card","from":{ROW}'), True),
-        (ended('"absent":"0x7f010000"'), True),
-        (ended('"tooManyReferences":"dimen/handle"'), True),
+        *((ended(f'"from":{ROW},"value":{stored(value)}'), True) for value in (DIMENSION, STRING, GARBLED, BROKEN, ATTRIBUTE)),
+        (ended(f'"bag":{RESOURCE},"from":{ROW}'), True),
+        (ended(f'"absent":{RESOURCE}'), True),
+        (ended(f'"tooManyReferences":{RESOURCE}'), True),
         (placed("{}"), True),
         (placed('{"locale":"de-AT","script":"4c61746e","variant":"706f6c79746f6e69"}'), True),
         (placed('{"locale":"x80ff0000"}'), True),
         ('{"count":0,"line":"set-aside"}', True),
-        (ended(f'"value":{DIMENSION}'), False),
+        (ended(f'"value":{HELD}'), False),
+        (ended(f'"from":{ROW},"value":{DIMENSION}'), False),
         (ended(f'"from":{ROW}'), False),
-        (ended(f'"absent":"dimen/handle","from":{ROW}'), False),
-        (ended(f'"from":{{"layer":0}},"value":{DIMENSION}'), False),
+        (ended('"absent":"dimen/handle"'), False),
+        (ended(f'"absent":{RESOURCE},"from":{ROW}'), False),
+        (ended(f'"from":{{"layer":0}},"value":{HELD}'), False),
+        (ended(f'"from":{ROW.replace("words", "word")},"value":{HELD}'), False),
         (placed('{"density":0}'), False),
         (placed('{"density":"320"}'), False),
         (placed('{"dpi":320}'), False),
         (placed('{"locale":"deutsch"}'), False),
         (placed('{"script":"Latn"}'), False),
-        ('{"end":{"absent":"dimen/handle"},"id":"dimen/handle","line":"end","name":"dimen/handle"}', False),
-        ('{"end":{"absent":"dimen/handle"},"id":"0x7f010000","line":"end"}', False),
+        (f'{{"end":{{"absent":{RESOURCE}}},"id":"dimen/handle","line":"end","name":"dimen/handle"}}', False),
+        (f'{{"end":{{"absent":{RESOURCE}}},"id":"0x7f010000","line":"end"}}', False),
         ('{"line":"set-aside"}', False),
         (LOOK_UP, False),
     ],
@@ -565,8 +595,8 @@ LINES = {
         *((decided(f'"did":"{did}","words":"{did}"'), True) for did in ("set aside", "first", "took over equal", "kept out")),
         (decided('"did":"no match","qualifier":"density","words":"no match: density"'), True),
         (decided('"did":"took over","rule":"P15","words":"took over: density (P15)"'), True),
-        (decided('"did":"first","words":"first"', '{"bag":"style/Card"}'), True),
-        (f'{{"end":{{"from":{ROW},"value":{DIMENSION}}},"line":"end"}}', True),
+        (decided('"did":"first","words":"first"', f'{{"bag":{RESOURCE}}}'), True),
+        (f'{{"end":{{"from":{ROW},"value":{HELD}}},"line":"end"}}', True),
         (decided('"did":"first"'), False),
         (decided('"did":"lost","words":"lost"'), False),
         (decided('"did":"no match","words":"no match: density"'), False),
@@ -575,9 +605,9 @@ LINES = {
         (decided('"did":"kept out","rule":"P24","words":"kept out"'), False),
         (decided('"did":"kept out","rule":15,"words":"kept out"'), False),
         (decided('"did":"first","words":"first"', "{}"), False),
-        (decided('"did":"first","words":"first"', '{"absent":"dimen/handle"}'), False),
+        (decided('"did":"first","words":"first"', f'{{"absent":{RESOURCE}}}'), False),
         ('{"id":"0x7f010000","line":"look-up"}', False),
-        (ended('"absent":"0x7f010000"'), False),
+        (ended(f'"absent":{RESOURCE}'), False),
         ('{"count":0,"line":"set-aside"}', False),
     ],
     "check-line": [
@@ -585,51 +615,107 @@ LINES = {
         ('{"failed":1,"goals":2,"line":"failed"}', True),
         ('{"count":0,"line":"set-aside"}', True),
         (rejected(), True),
-        (rejected(f'"claimed":{CLAIMED},"devices":[],', '"name":"dimen/handle",'), True),
-        (rejected('"claimed":{"bag":"0x7f010000"},', '"name":"attr/tint under style/A style/B",'), True),
-        (rejected(shown(f'{{"from":{ROW},"value":{DIMENSION}}}', f'{{"bag":"style/A","from":{ROW}}}')), True),
-        (rejected(shown('{"absent":"0x7f010000"}')), True),
-        (rejected(shown('{"tooManyReferences":"dimen/handle"}')), True),
+        (rejected(f'"claimed":{CLAIMED},"devices":[],"goal":{RESOURCE},'), True),
+        (rejected(f'"claimed":{{"bag":{RESOURCE}}},"goal":{RESOURCE[:-1]},"styles":[{RESOURCE}]}},'), True),
+        (rejected(shown(f'{{"from":{ROW},"value":{HELD}}}', f'{{"bag":{RESOURCE},"from":{ROW}}}')), True),
+        (rejected(shown(f'{{"absent":{RESOURCE}}}')), True),
+        (rejected(shown(f'{{"tooManyReferences":{RESOURCE}}}')), True),
         (rejected(shown(CLAIMED)), True),
         ('{"goals":1,"line":"accepted"}', False),
         ('{"failed":0,"goals":2,"line":"failed"}', False),
         ('{"count":-1,"line":"set-aside"}', False),
-        (rejected('"claimed":{"absent":"0x7f010000"},'), False),
-        (rejected(f'"claimed":{{"from":{ROW},"value":{DIMENSION}}},'), False),
+        (rejected(f'"claimed":{{"absent":{RESOURCE}}},'), False),
+        (rejected(f'"claimed":{{"from":{ROW},"value":{HELD}}},'), False),
+        (rejected('"goal":0,'), False),
+        (rejected('"goal":"dimen/handle",'), False),
         (rejected(shown("{}")), False),
-        (rejected(shown(f'{{"value":{DIMENSION}}}')), False),
+        (rejected(shown(f'{{"value":{HELD}}}')), False),
         (rejected(shown(CLAIMED, CLAIMED, CLAIMED)), False),
-        (rejected('"devices":[{"end":{"absent":"0x7f010000"}}],'), False),
-        (rejected('"devices":[{"device":{"density":160,"night":0},"end":{"absent":"0x7f010000"}}],'), False),
-        ('{"goal":0,"line":"rejected","node":0,"rule":"N9","ruleName":"OtherValue"}', False),
+        (rejected(f'"devices":[{{"end":{{"absent":{RESOURCE}}}}}],'), False),
+        (rejected(f'"devices":[{{"device":{{"density":160,"night":0}},"end":{{"absent":{RESOURCE}}}}}],'), False),
+        ('{"line":"rejected","node":0,"place":0,"rule":"N9","ruleName":"OtherValue"}', False),
         ('{"line":"rejected","node":0,"rule":"N8","ruleName":"OtherValue"}', False),
         (SAME, False),
     ],
     "attr-line": [
         ('{"id":"0x7f010000","line":"attribute","name":"attr/tint"}', True),
-        ('{"decision":"not set","id":"0x7f010000","line":"style","name":"style/A"}', True),
-        (styled(f'"layer":0,"line":"style","name":"style/A","path":"app.apk","value":{DIMENSION}'), True),
+        (styled("not set", "not set"), True),
+        (styled("first", "first", f'"from":{TOLD_LAYER},"value":{HELD},'), True),
+        (styled("kept out", "kept out: set already", f'"from":{TOLD_LAYER},"value":{HELD},'), True),
         ('{"id":"0x7f010000","line":"look-up","name":"color/ink"}', True),
         (f'{{"end":{CLAIMED},"line":"end"}}', True),
-        ('{"end":{"absent":"attr/tint"},"line":"end"}', True),
+        (f'{{"end":{{"absent":{RESOURCE}}},"line":"end"}}', True),
+        (f'{{"end":{{"bag":{RESOURCE},"from":{ROW}}},"line":"end"}}', True),
         ('{"fault":"Plain","line":"no bag"}', True),
-        (styled('"line":"style","name":"style/A"'), False),
-        ('{"decision":"lost","id":"0x7f010000","line":"style","name":"style/A"}', False),
-        (f'{{"end":{DIMENSION},"line":"end"}}', False),
+        (styled("first", "first"), False),
+        (styled("lost", "lost"), False),
+        (styled("not set", "not set", f'"from":{TOLD_LAYER},"value":{HELD},'), False),
+        ('{"decision":"not set","id":"0x7f010000","line":"style","name":"style/A"}', False),
+        (f'{{"end":{HELD},"line":"end"}}', False),
+        (f'{{"end":{{"bag":{RESOURCE}}},"line":"end"}}', False),
         (SAME, False),
     ],
     "bag-line": [
-        (bag_row("0", DIMENSION), True),
-        (bag_row('"other"', STRING), True),
-        (bag_row('"attr/tint"', REFERENCE), True),
-        (bag_row('"0x01010098"', ATTRIBUTE), True),
+        (bag_row("0", HELD), True),
+        (bag_row('"other"', stored(STRING)), True),
+        (bag_row('"attr/tint"', stored(REFERENCE)), True),
+        (bag_row('"0x01010098"', stored(ATTRIBUTE)), True),
         *((f'{{"fault":"{fault}","line":"no bag"}}', True) for fault in ("Absent", "Plain", "BagDepth")),
-        (bag_row("-1", STRING), False),
-        (bag_row('"[0]"', STRING), False),
+        (bag_row("-1", HELD), False),
+        (bag_row('"[0]"', HELD), False),
         (bag_row("0", "{}"), False),
+        (bag_row("0", STRING), False),
         ('{"fault":"OutOfMemory","line":"no bag"}', False),
         ('{"line":"no bag"}', False),
-        ('{"id":"0x7f010000","key":0,"line":"row","path":"app.apk"}', False),
+        (f'{{"id":"0x7f010000","key":0,"line":"row","value":{HELD}}}', False),
+        (SAME, False),
+    ],
+    "unused-line": [
+        *((row(f'"value":{HELD}', line), True) for line in ("unused", "overlaid", "unmapped")),
+        (row(f'"bag":{{"parent":{RESOURCE},"rows":2}}'), True),
+        (row('"bag":{"rows":0}'), True),
+        ('{"bytes":48,"count":11,"line":"rows","overlaid":4,"unmapped":0,"unused":3}', True),
+        (LIMIT, True),
+        (row(f'"value":{HELD}', "loaded"), False),
+        (row(f'"value":{STRING}'), False),
+        (row(f'"bag":{RESOURCE}'), False),
+        (row(f'"bag":{{"rows":0}},"value":{HELD}'), False),
+        (f'{{"from":{ROW},"id":"0x7f010000","line":"unused","name":"dimen/handle","value":{HELD}}}', False),
+        ('{"count":11,"line":"rows"}', False),
+        (SAME, False),
+    ],
+    "survey-line": [
+        (found("compact-entry", '{"place":348}', "true"), True),
+        (found("locale", '{"id":"0x7f010000"}', "false"), True),
+        ('{"count":1,"first":{"id":"0x7f010000"},"line":"shared-names","warning":true}', True),
+        (spread("320", "160", "density"), True),
+        (spread('"fr-CA"', '"de"', "locale"), True),
+        ('{"line":"lacks","qualifier":"night","warning":true}', True),
+        (f'{{"fault":"Chunk Truncated 0","from":{LAYER_0},"line":"refused"}}', True),
+        (f'{{"fault":"NotTable","from":{LAYER_0},"line":"refused"}}', True),
+        (found("compact-entry", '{"place":348}', "false"), False),
+        (found("locale", '{"id":"0x7f010000"}', "true"), False),
+        (found("gender", "348", "true"), False),
+        (found("of-no-kind", '{"place":348}', "true"), False),
+        (found("gender", '{"place":348}', "true", "{}"), False),
+        (spread('"fr-CA"', '"de"', "density"), False),
+        (spread("320", "160", "locale"), False),
+        (spread("320", "0", "density"), False),
+        ('{"line":"lacks","qualifier":"dpi","warning":true}', False),
+        ('{"line":"lacks","qualifier":"night"}', False),
+        ('{"fault":"NotTable","line":"refused"}', False),
+        (SAME, False),
+    ],
+    "map-line": [
+        ('{"line":"pair","name":"dimen/handle","own":"0x7f010000","target":"0x7f020000"}', True),
+        ('{"line":"pair","own":"0x7f010000","target":"0x7f020000"}', True),
+        ('{"id":"0x7f010000","line":"unmapped","name":"dimen/handel"}', True),
+        ('{"from":{"id":"0x7f010000"},"line":"astray","to":{"id":"0x7f010001","name":"s/b"}}', True),
+        ('{"line":"pair","name":"dimen/handle","own":"0x7f010000"}', False),
+        ('{"line":"pair","name":"dimen/handle","own":"7f010000","target":"0x7f020000"}', False),
+        ('{"id":"0x7f010000","line":"unmapped","name":"handel"}', False),
+        ('{"from":"0x7f010000","line":"astray","to":{"id":"0x7f010001"}}', False),
+        ('{"from":{"id":"0x7f010000"},"line":"astray"}', False),
         (SAME, False),
     ],
 }

@@ -1,5 +1,6 @@
 #!/usr/bin/env python3
-"""Holds what `survey` prints of random layers, with a box and without one, against a plain reading:
+"""Holds what `survey` prints of random layers, with a box and without one, against a plain reading, and its lines of JSON
+against its lines of text:
 
     check_survey.py [--locales android] PROGRAM CASES [JOBS [FIRST]]
 
@@ -20,7 +21,9 @@ from functools import partial
 
 from case_files import id_text
 from case_words import read_words
+from check_json import read_lines, schema_of
 from check_sparse import Twins, table_bytes
+from json_of_survey import as_json
 from made_layers import Pool, chunk, type_header, type_spec
 from named_tables import Table as Named
 from plain_survey import NO_ENTRY, SHORT, survey_of, survey_of_refused
@@ -114,7 +117,7 @@ class Run:
         self.box = case.box.json()
         if chance.random() < 0.7:
             self.box["locale"] = chance.sample(LOCALES, chance.randint(1, 3))
-        self.tables, self.are_bases, self.refused, layers = [], [], [], []
+        self.tables, self.paths, self.are_bases, self.refused, layers = [], [], [], [], []
         for place, own_of in enumerate(case.maps):
             twins = Twins(chance, case)
             table = newer_table(chance, case) if chance.random() < 0.2 else chance.choice((twins.dense, twins.sparse))
@@ -130,6 +133,7 @@ class Run:
                 self.refused.append((table, printed.strip().replace("refused: ", "refused: layer 0 ")))
                 continue
             self.tables.append(table)
+            self.paths.append(f"table{place}")
             self.are_bases.append(own_of is None)
             layers.append({"table": f"table{place}"})
             if own_of is not None:
@@ -146,8 +150,16 @@ class Run:
         done = subprocess.run([self.program, *words], cwd=self.folder, capture_output=True, text=True)
         return done.stdout + done.stderr, done.returncode
 
-    def survey(self, *words):
-        return self.run("survey", *self.options, *words)
+    def survey(self, paths, *words):
+        """What is printed, and the status. As JSON it is the same, of tables at these paths."""
+        text, status = self.run("survey", *self.options, *words)
+        printed = self.run("survey", "--json", *self.options, *words)
+        if printed != (as_json(text, paths) if status < 2 else text, status):
+            sys.exit(f"{words}: printed\n{printed}\nas JSON, and as text\n{text}")
+        faults = read_lines(schema_of("survey"), printed[0])[1] if status < 2 else []
+        if faults:
+            sys.exit(f"{words}: {faults}")
+        return text, status
 
     def newer_found(self, tables):
         """How often the script for newer tables finds something, in all of these tables."""
@@ -186,7 +198,7 @@ def check_refused(run, number):
     for table, message in run.refused:
         run.write("table", table)
         lines, status = survey_of_refused(table, message)
-        got, want = run.survey("alone"), ("".join(line + "\n" for line in lines), status)
+        got, want = run.survey(["table"], "alone"), ("".join(line + "\n" for line in lines), status)
         if got != want:
             sys.exit(f"case {number}, refused: printed\n{got}\nand not\n{want}")
         check_newer(run, number, [table], got[0])
@@ -210,11 +222,11 @@ def check(program, as_phone, number):
         for words, box in ((("layers",), None), (("layers", "box"), run.box)):
             lines, status = survey_of(run.tables, box, run.are_bases, as_phone)
             want = "".join(line + "\n" for line in lines), status
-            got = run.survey(*words)
+            got = run.survey(run.paths, *words)
             if got != want:
                 sys.exit(f"case {number}, {words}: printed\n{got}\nand not\n{want}")
             warned += status
-        check_newer(run, number, run.tables, run.survey("layers")[0])
+        check_newer(run, number, run.tables, run.survey(run.paths, "layers")[0])
         check_refused(run, number)
         check_no_table(run)
     return warned, len(run.refused)

@@ -5,11 +5,12 @@
 
 The layers, the box, and now and then words or a limit of nodes are those of check_diff.py, after its changes; some maps have more
 pairs, of ids that no base has too. Each row that no device loads is to be told as it stands in its own table, once and in order, and
-then how many there are.
+then how many there are. With --json the same is to be told, but for the rows of a bag, and each row's id, the path of its table,
+whether its layer is an overlay, and what it holds.
 
 The cases are numbered from FIRST on, which is 0 if it is not given. The last line counts what was compared."""
-import random
-import subprocess
+import json
+import os
 import sys
 import tempfile
 from collections import Counter
@@ -18,9 +19,11 @@ from functools import partial
 
 from case_words import read_words
 from check_diff import CASES_OF_A_JOB, NODE_LIMIT, SHOWN, Case
+from check_json import faults_of_parts, read_lines, run, schema_of
 from check_names import ids_named
 from made_layers import record_bytes
 from plain_bags import Bag
+from plain_certificates import id_text
 from plain_diff import Stack
 from plain_notation import config_text
 from plain_rules import by_id, step_of
@@ -117,21 +120,25 @@ class UnusedCase(Case):
             return "unmapped"
         return "loaded" if row in self.loaded else "overlaid" if row in self.of_bases else "unused"
 
-    def due(self):
-        """The text, and the status."""
-        asked, lines, counts, size = self.asked(), [], Counter(), 0
+    def used(self):
+        """Each row that is asked for, with its layer, and what becomes of it."""
+        asked = self.asked()
         for layer, (table, _) in enumerate(self.layers):
-            lone = Stack([(table, None)])
             for place, row in enumerate(table.rows):
                 names = self.ids_of(layer, row.id)
-                if asked is not None and not asked & {*names}:
-                    continue
-                use = self.use((layer, place), names)
-                counts[use] += 1
-                if use != "loaded":
-                    lines += row_lines(lone, f"{use} layer {layer}", row)
-                if use == "unused":
-                    size += ENTRY + ROW * (len(row.cell.rows) if isinstance(row.cell, Bag) else 0)
+                if asked is None or asked & {*names}:
+                    yield layer, row, self.use((layer, place), names)
+
+    def due(self):
+        """The text, and the status."""
+        lines, counts, size = [], Counter(), 0
+        lone = [Stack([(table, None)]) for table, _ in self.layers]
+        for layer, row, use in self.used():
+            counts[use] += 1
+            if use != "loaded":
+                lines += row_lines(lone[layer], f"{use} layer {layer}", row)
+            if use == "unused":
+                size += ENTRY + ROW * (len(row.cell.rows) if isinstance(row.cell, Bag) else 0)
         totals = [f"rows {counts.total()}", *(f"{use} {counts[use]}" for use in ("unused", "overlaid", "unmapped")), f"bytes {size}"]
         return "".join(f"{line}\n" for line in [*lines, " ".join(totals)]), int(counts["unused"] > 0)
 
@@ -158,6 +165,47 @@ def row_lines(lone, front, row):
     return [f"{front} bag{parent} count {len(rows)}", *(f"  {each.name} {each.said.text}" for each in rows)]
 
 
+def text_of(line):
+    """A line of JSON as text."""
+    if "from" not in line:
+        counts = f"unused {line['unused']} overlaid {line['overlaid']} unmapped {line['unmapped']}" if line["line"] == "rows" else ""
+        return f"rows {line['count']} {counts} bytes {line['bytes']}" if counts else line["line"]
+    front = f"{line['line']} layer {line['from']['layer']} {line['name']} {line['from']['config']['words']}"
+    if "value" in line:
+        return f"{front} {line['value']['xml']}"
+    parent = f" parent {line['bag']['parent']['name']}" if "parent" in line["bag"] else ""
+    return f"{front} bag{parent} count {line['bag']['rows']}"
+
+
+def beside_text(line):
+    """What a line of JSON says of a row beside its text."""
+    stored = line.get("value", {}).get("stored")
+    return line["id"], line["from"]["path"], line["overlay"], stored and (stored["kind"], stored["word"])
+
+
+def faults_as_json(case, folder, said, program, command):
+    """The faults of what is printed as JSON, where this is printed as text."""
+    printed = run(program, folder, ["unused", "--json", *command[1:]])
+    lines, faults = read_lines(schema_of("unused"), printed.text)
+    if faults:
+        return faults
+    told, wanted = [text_of(line) for line in lines], [line for line in said[0].split("\n")[:-1] if not line.startswith("  ")]
+    faults += [f"as JSON {told}, where {wanted} is due"] * (told != wanted) + [f"{printed[1:]} with --json"] * (printed[1:] != said[1:])
+    if len(lines) < 2:
+        return faults
+    with open(os.path.join(folder, "new")) as layers:
+        paths = [layer["table"] for layer in json.load(layers)]
+    known = [
+        (id_text(row.id), paths[layer], case.layers[layer][1] is not None, None if isinstance(row.cell, Bag) else (*row.cell,))
+        for layer, row, use in case.used()
+        if use != "loaded"
+    ]
+    beside = [beside_text(line) for line in lines[:-1]]
+    for layer in range(len(paths)):
+        faults += faults_of_parts([line for line in lines[:-1] if line["from"]["layer"] == layer], paths)
+    return faults + [f"as JSON {beside}, where {known} is due"] * (beside != known)
+
+
 def faults_of(case, said):
     """The faults of what is printed to both streams, and of the status; and what was told."""
     try:
@@ -173,9 +221,10 @@ def faults_of(case, said):
 
 def check_case(program, as_phone, folder, number):
     case = UnusedCase(as_phone, number)
-    done = subprocess.run([program, *case.command(folder)], cwd=folder, capture_output=True)
-    said = done.stdout.decode(), done.stderr.decode(), done.returncode
+    command = case.command(folder)
+    said = (*run(program, folder, command),)
     faults, told = faults_of(case, said)
+    faults += faults_as_json(case, folder, said, program, command)
     lines = Counter(line.split(" ", 1)[0] for line in said[0].split("\n")[:-2])
     return [f"case {number}: {fault}, of {str(said)[:SHOWN]}" for fault in faults], told, lines
 

@@ -495,7 +495,6 @@ no_unused "a bad name of unused comes before the files" 2 'command: bad id strin
 ends "unused without a box" 2 '"$0" unused new'
 ends "unused within 0 nodes" 2 '"$0" unused --max-nodes 0 new box'
 ends "unused rows that are raw" 2 '"$0" unused --raw new box'
-ends "unused rows as JSON" 2 '"$0" unused --json new box'
 
 ends "diff to a closed output" 5 '"$0" diff new new box >&-'
 ends "diff as JSON to a closed output" 5 '"$0" diff --json new new box >&-'
@@ -556,11 +555,13 @@ fi
 
 # ---- README and the guide: what they show after a command is what it prints
 
-# shows PAGE FOLDER: the commands of this page of the folder, run there one after the other. Those with jq need that.
+# shows PAGE FOLDER [WORD]: the commands of this page of the folder, run there one after the other, with this word in place of
+# ./restool. Those with jq need that.
 shows() {
     rm -rf shown
     mkdir shown
-    awk '/^\$ / { name = sprintf("shown/%03d", ++n); print substr($0, 3) >(name ".command"); printf "" >(name ".lines"); next }
+    awk -v word="${3:-./restool}" '/^\$ / { name = sprintf("shown/%03d", ++n); gsub(/\.\/restool/, word)
+            print substr($0, 3) >(name ".command"); printf "" >(name ".lines"); next }
         /^```/ { name = "" } name { print >(name ".lines") }' "$2/$1"
     for shown in shown/*.lines; do
         command=$(cat "${shown%.lines}.command")
@@ -607,10 +608,14 @@ tar -xzf "first/$package.tar.gz" -C unpacked
 unpacked=$work/unpacked/$package
 ends "checksums of the package" 0 "cd '$unpacked' && sha256sum -c --quiet SHA256SUMS"
 ends "checksums of all its files" 0 "[ \$(find '$unpacked' -type f | wc -l) = \$((\$(wc -l <'$unpacked/SHA256SUMS') + 1)) ]"
-if command -v dpkg-deb >/dev/null && command -v python3 >/dev/null; then
+if command -v dpkg >/dev/null && command -v python3 >/dev/null; then
     deb=$(basename first/*.deb)
     ends "the same .deb twice" 0 "cmp 'first/$deb' 'second/$deb'"
-    ends "what the .deb has" 0 "dpkg-deb -x 'first/$deb' installed"
+    mkdir -p installed/var/lib/dpkg/info installed/var/lib/dpkg/updates
+    : >installed/var/lib/dpkg/status
+    # (No library and no user stands there.)
+    dpkg="dpkg --root='$work/installed' --log=/dev/null --force-depends --force-not-root --force-bad-path"
+    ends "the .deb is installed" 0 "$dpkg --install 'first/$deb'"
     ends "its program" 0 "cmp installed/usr/bin/restool '$unpacked/restool'"
     ends "its pages" 0 "diff -r -x restool -x tools -x SHA256SUMS -x copyright '$unpacked' installed/usr/share/doc/restool"
     ends "what makes its pages for reviewers" 0 "cmp installed/usr/bin/restool-review '$unpacked/tools/review.py'"
@@ -623,10 +628,19 @@ if command -v dpkg-deb >/dev/null && command -v python3 >/dev/null; then
     if command -v bash >/dev/null; then
         ends "what bash completes" 0 "bash '$here/tests/completions.bash' $shares/bash-completion/completions/restool '$work/installed/usr/bin' >&2"
     fi
-    if command -v zsh >/dev/null; then ends "what zsh completes can be read" 0 "zsh -n $shares/zsh/vendor-completions/_restool"; fi
-    if command -v fish >/dev/null; then ends "what fish completes can be read" 0 "fish -n $shares/fish/vendor_completions.d/restool.fish"; fi
+    if command -v zsh >/dev/null; then
+        ends "what zsh completes" 0 "zsh -f '$here/tests/completions.zsh' $shares/zsh/vendor-completions/_restool '$work/installed/usr/bin' >&2"
+    fi
+    if command -v fish >/dev/null; then
+        ends "what fish completes" 0 "fish --no-config '$here/tests/completions.fish' $shares/fish/vendor_completions.d/restool.fish '$work/installed/usr/bin' >&2"
+    fi
+    path=$PATH
+    PATH=$work/installed/usr/bin:$PATH
+    shows README.md "$shares/doc/restool" restool
+    PATH=$path
+    ends "the .deb is removed" 0 "$dpkg --purge restool && [ ! -e installed/usr ]"
 else
-    echo "not run, since dpkg-deb or python3 is missing: the package for apt"
+    echo "not run, since dpkg or python3 is missing: the package for apt"
 fi
 path=$PATH
 PATH=$(printf '%s\n' "$path" | tr : '\n' | while read -r it; do [ -x "$it/rt" ] || printf ':%s' "$it"; done)

@@ -1,48 +1,42 @@
-"""What `restool query --json` and `restool explain --json` print, written as the lines that both print without `--json`. For the scripts
-beside it."""
+"""What `restool query --json`, `explain --json`, `bag --json`, `attr --json` and `check --json` print, written as the lines that they
+print as text. For the scripts beside it."""
 import re
 
-from check_notation import in_columns, value_of
+from check_notation import in_columns
 from made_layers import joined_pairs
-from plain_diff import word_read
 from plain_rules import COORDS, value_text
 
 NOT_THERE = ("set aside", "no match")
 REASONS = {"absent": "absent", "tooManyReferences": "too many references"}
 
 
+def why_none(end):
+    """Why an end is neither a value nor a bag, and of which resource."""
+    return next((words, end[name]) for name, words in REASONS.items() if name in end)
+
+
 # ---- raw
 
 
 class Raw:
-    """By ids and indexes. Which id a name stands for the lines say; an index of a string they don't have, so `as_read` takes it out of
-    what is printed, and what no device reads of a value too."""
+    """By ids and indexes, each value as its row holds it."""
 
     words = ()
 
-    def __init__(self, ids):
-        self.ids = ids
-
-    def id(self, name):
-        return self.ids.get(name, name)
-
     def value(self, value):
-        if "kind" in value:
-            return value_text(value["kind"], value["word"])
-        if "reference" in value or "attribute" in value:
-            return f"@{self.id(value['reference'])}" if "reference" in value else f"?{self.id(value['attribute'])}"
-        if "broken" in value:
-            return "string"
-        return f"string {value['string'] if 'string' in value else spelled(value['garbled'])}"
+        return value_text(value["stored"]["kind"], value["stored"]["word"])
 
     def end(self, end):
         if "value" in end:
             return f"value layer {end['from']['layer']} {self.value(end['value'])}"
-        reason, name = next((reason, end[reason]) for reason in ("bag", *REASONS) if reason in end)
-        return f"{'too long' if reason == 'tooManyReferences' else reason} {self.id(name)}"
+        if "bag" in end:
+            return f"bag {end['bag']['id']}"
+        words, resource = why_none(end)
+        return f"{'absent' if words == 'absent' else 'too long'} {resource['id']}"
 
     def line(self, line):
-        return f"{line['id']} {self.end(line['end'])}"
+        """With a string behind its index, as `as_read` has it."""
+        return f"{line['id']} {self.end(line['end'])}{string_behind(line['end'].get('value', {}))}"
 
     def look_up(self, line, candidates):
         return [f"lookup {line['id']}", *(self.candidate(*it) for it in enumerate(candidates))]
@@ -52,28 +46,21 @@ class Raw:
         return f"candidate {place} layer {line['from']['layer']} {record_text(line['from']['config'])} {line['decision']['did']}{why}"
 
     def last(self, line):
-        return f"end {STRING.sub(first_group, self.end(line['end']))}"
+        return f"end {self.end(line['end'])}"
 
     def as_read(self, printed):
-        return [VALUE.sub(lambda parts: parts[1] + as_read(parts[2]), line) for line in printed]
+        return [QUOTED.sub(lambda parts: f'{parts[1]}"{spelled(parts[2])}"', line) for line in printed]
 
 
-STRING = re.compile("^(value layer [0-9]+ string) .*", re.DOTALL)
-"""What an explanation ends at, which has the index of a string alone."""
-VALUE = re.compile(r"^((?:0x[0-9a-f]{8}|end) value layer [0-9]+ )(.*)$")
+def string_behind(value):
+    if "broken" in value:
+        return f" {value['broken'].partition(' ')[0]}"
+    if "string" in value or "garbled" in value:
+        return f' "{value["string"] if "string" in value else spelled(value["garbled"])}"'
+    return ""
 
 
-def first_group(parts):
-    return parts[1]
-
-
-def as_read(text):
-    """A value that is printed, as a device reads it, and without the index of a string or why it cannot be read."""
-    string = re.fullmatch(r"string [0-9]+( \".*\")?(?: !\w+)?", text)
-    if string:
-        return f"string {spelled(string[1][1:])}" if string[1] else "string"
-    kind, word = value_of(text)
-    return value_text(kind, word_read(kind, word))
+QUOTED = re.compile(r"^(0x[0-9a-f]{8} value layer [0-9]+ string [0-9]+ )(\".*\")$")
 
 
 def spelled(quoted):
@@ -101,6 +88,10 @@ def record_text(config):
 # ---- in Android's notation
 
 
+def path_of(place):
+    return place.get("path", f"layer {place['layer']}")
+
+
 class Notation:
     """By names. Of candidates that do not match there are lines where all are asked for."""
 
@@ -109,10 +100,12 @@ class Notation:
         self.words = ("--android", *["--all"] * is_all)
 
     def end(self, end):
-        if "from" in end:
-            return f"{held(end)} from {end['from']['path']} {end['from']['config']['word']}"
-        ((reason, name),) = end.items()
-        return f"{REASONS[reason]} {name}"
+        """Where a value or a bag is told without its row, no configuration stands behind it, or nothing."""
+        if "value" in end or "bag" in end:
+            place = end.get("from")
+            return " ".join([held(end), *(["from", path_of(place)] if place else []), *([place["config"]["words"]] if "config" in (place or {}) else [])])
+        words, resource = why_none(end)
+        return f"{words} {resource['name']}"
 
     def line(self, line):
         return f"{line['name']} {self.end(line['end'])}"
@@ -120,7 +113,7 @@ class Notation:
     def look_up(self, line, candidates):
         shown = [it for it in candidates if self.is_all or it["decision"]["did"] not in NOT_THERE]
         hidden = len(candidates) - len(shown)
-        rows = [(it["from"]["path"], it["from"]["config"]["word"], held(it["holds"]), it["decision"]["words"]) for it in shown]
+        rows = [(path_of(it["from"]), it["from"]["config"]["words"], held(it["holds"]), it["decision"]["words"]) for it in shown]
         more = [f"  {hidden}{' more' * bool(shown)} {'row does' if hidden == 1 else 'rows do'} not match"] if hidden else []
         return [line["name"], *in_columns(rows), *more]
 
@@ -143,13 +136,9 @@ def query_text(form, lines):
 
 
 def explain_text(form, lines):
+    """Those of look-ups with the candidates behind each, and that of the end."""
     text, places = [], [place for place, line in enumerate(lines) if line["line"] != "candidate"]
     for place, following in zip(places, [*places[1:], len(lines)]):
         line, candidates = lines[place], lines[place + 1 : following]
         text += form.look_up(line, candidates) if line["line"] == "look-up" else [form.last(line)]
     return text
-
-
-def ids_of(lines):
-    """Which id each name stands for that lines have beside its id."""
-    return {line["name"]: line["id"] for line in lines if "id" in line}

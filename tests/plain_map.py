@@ -1,4 +1,5 @@
 """The id map of an overlay, by a plain reading of its rules. For check_map.py."""
+import json
 from collections import namedtuple
 
 from plain_bags import Bag
@@ -40,16 +41,27 @@ def ids_named(cell):
     return [word] if kind in (REFERENCE, ATTRIBUTE) else []
 
 
-def lines_of(overlay, own_of):
-    """What is said of a map: the ids that stand for no target, and the references to an id that does not stand for itself."""
+def unmapped(overlay, own_of):
+    """The first rows of the ids that stand for no target."""
+    carried = set(own_of.values())
+    return [row for row in first_rows(overlay).values() if row.id not in carried]
+
+
+def astray(overlay, own_of):
+    """The rows that refer to an id that does not stand for itself, with its first row."""
     first, carried = first_rows(overlay), set(own_of.values())
-    for row in first.values():
-        if row.id not in carried:
-            yield f"unmapped {named(row)}"
     for row in overlay:
         for name in ids_named(row.cell) if row.id in carried else []:
             if name in first and own_of.get(name) != name:
-                yield f"astray {named(row)} to {named(first[name])}"
+                yield row, first[name]
+
+
+def lines_of(overlay, own_of):
+    """What is said of a map."""
+    for row in unmapped(overlay, own_of):
+        yield f"unmapped {named(row)}"
+    for row, other in astray(overlay, own_of):
+        yield f"astray {named(row)} to {named(other)}"
 
 
 def named(row):
@@ -60,3 +72,20 @@ def map_text(own_of):
     """The map as it is printed."""
     pairs = [f'["{id_text(target)}","{id_text(own)}"]' for target, own in own_of.items()]
     return "[" + ",\n ".join(pairs) + "]\n"
+
+
+def with_name(row, **members):
+    """With the names of a row, where both are text."""
+    return members if None in row.names else {"name": "/".join(row.names), **members}
+
+
+def json_text(overlay, own_of):
+    """The map and what is said of it, as lines of JSON."""
+    first = first_rows(overlay)
+    lines = [
+        *(with_name(first[own], line="pair", own=id_text(own), target=id_text(target)) for target, own in own_of.items()),
+        *(with_name(row, id=id_text(row.id), line="unmapped") for row in unmapped(overlay, own_of)),
+        *({"line": "astray", "from": with_name(row, id=id_text(row.id)), "to": with_name(other, id=id_text(other.id))}
+          for row, other in astray(overlay, own_of)),
+    ]
+    return "".join(json.dumps(line, sort_keys=True, separators=(",", ":"), ensure_ascii=False) + "\n" for line in lines)

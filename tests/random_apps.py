@@ -13,7 +13,7 @@ COUNTS = {"string": 3, "color": 2, "dimen": 2, "attr": 3, "style": 3, "array": 1
 """How many resources of each type an app has, at most."""
 ENTRY_NAMES = ("title", "card", "größe", "a b", "Theme.Dark", "*", "a\u2028b", "\ud83d\ude00")
 TEXTS = ("Cancel", "Cancel!", "OK", "日本", "", 'say "hi"', "one\ntwo", "😀", "\ud83d\ude00", "half \ud83d", "\udc00", " on sdk=26")
-TEXTS += ("a -> b", "a\u0085", "\u202e\u2069", Broken("Cut", 0), Broken("NotEnded", 0), Broken("NotEnded", 1))
+TEXTS += ("a -> b", "a\u0085", "\u202e\u2069", "\x1b[2K\t\\", Broken("Cut", 0), Broken("NotEnded", 0), Broken("NotEnded", 1))
 VALUES = ((5, 0x401), (5, 0x301), (5, 0x101), (0x1C, 0xFF402000), (0x1D, 0xFF402000), (0x1D, 0xFF102030), (0x10, 1), (0x11, 1))
 VALUES += ((0x10, 2), (0x12, 1), (0x12, 1), (0x12, 0xFFFFFFFF), (0x12, 0))
 """Some of which are told apart, though a device reads them alike."""

@@ -1,4 +1,5 @@
 """Random layers, boxes and certificates. For the scripts beside it."""
+from made_layers import table_bytes
 from plain_bags import Attribute, Bag
 from plain_certificates import Box, leaf_of
 from plain_rules import COORDS, Layers, Record, by_id
@@ -120,6 +121,9 @@ class Focus:
 
 class Case(Focus):
     """Layers, a box, and the goals that are asked: ids, and, where the case has styles, attributes too."""
+
+    table_bytes = staticmethod(table_bytes)
+    """The table of rows, of a layer."""
 
     def __init__(self, chance, has_styles=False):
         super().__init__(chance)

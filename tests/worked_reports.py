@@ -3,7 +3,8 @@
 
     worked_reports.py PROGRAM [JOBS]
 
-The cases are such as worked_rows.py has, and what is printed of them is the same."""
+The cases are such as worked_rows.py has, and what is printed of them is the same. Each survey is asked for as JSON too."""
+from json_of_survey import as_json
 from small_tables import TABLE_A, TABLE_B, changed, pool_of_string, table_of_lines
 from worked_rows import ID, Case, check_groups, files_of, lines
 
@@ -46,12 +47,21 @@ LONG_CONFIGS = changed(
 """Two types, whose configurations of 56 bytes end with a numbering system, in a package whose header is too short."""
 
 
+PATHS = ["layers0", "layers1"]
+
+
+def in_both_forms(words, out, status, **files):
+    """A survey that is answered, by these words behind `survey`."""
+    yield Case(f"survey {words}", out, "", status, **files)
+    yield Case(f"survey --json {words}", as_json(out, PATHS), "", status, **files)
+
+
 def surveyed(table, told, fault=None):
     """A survey of one table. Where it is refused and nothing warns of it, the fault is a message."""
     out = lines([*told, *([f"refused: layer 0 table: {fault}"] if fault else [])])
     if fault and not told:
-        return Case("survey layers", "", out, 3, **files_of([table]))
-    return Case("survey layers", out, "", int(out.startswith("warning")), **files_of([table]))
+        return [Case(f"survey {form}layers", "", out, 3, **files_of([table])) for form in ("", "--json ")]
+    return in_both_forms("layers", out, int(out.startswith("warning")), **files_of([table]))
 
 
 def found(name, place, count=1):
@@ -60,28 +70,28 @@ def found(name, place, count=1):
 
 def of_chunks():
     for pieces, name, place, fault in FOUND:
-        yield surveyed(changed(TABLE_A, *pieces), [found(name, place)], fault)
+        yield from surveyed(changed(TABLE_A, *pieces), [found(name, place)], fault)
     with_overlayable = TABLE_A[:328] + OVERLAYABLE + TABLE_A[328:]
-    yield surveyed(changed(with_overlayable, (4, "a801"), (44, "8001")), ["note layer 0 overlayable 1 first 328"])
+    yield from surveyed(changed(with_overlayable, (4, "a801"), (44, "8001")), ["note layer 0 overlayable 1 first 328"])
     # What no device reads alone is no warning.
-    yield surveyed(changed(TABLE_A, (328, "04")), [], "TypeWithoutSpec 348")
+    yield from surveyed(changed(TABLE_A, (328, "04")), [], "TypeWithoutSpec 348")
     for table in NOTHING_FOUND:
-        yield surveyed(table, [])
-    yield surveyed(TABLE_A[:40], [], "Chunk Oversize 0")
-    yield surveyed(b"", [], "Chunk Truncated 0")
+        yield from surveyed(table, [])
+    yield from surveyed(TABLE_A[:40], [], "Chunk Oversize 0")
+    yield from surveyed(b"", [], "Chunk Truncated 0")
     # The second entry stands where its offset of 16 bits leads to. As offsets of 32 bits both are one, which leads nowhere.
     short = changed(TABLE_A, SHORT_OFFSETS, (360, "02"), (396, "ffff0100"), (406, "08"))
-    yield surveyed(short, [found("16-bit-offsets", 348), found("compact-entry", 348)], "Entry 131471")
+    yield from surveyed(short, [found("16-bit-offsets", 348), found("compact-entry", 348)], "Entry 131471")
     yield from of_long_configurations()
 
 
 def of_long_configurations():
     fault = "Chunk HeaderShort 12"
-    yield surveyed(LONG_CONFIGS, [], fault)
-    yield surveyed(changed(LONG_CONFIGS, (40 + 49, "01")), [], fault)
-    yield surveyed(changed(LONG_CONFIGS, (40 + 49, "01"), (116 + 55, "6c")), [found("newer-qualifier", 96)], fault)
+    yield from surveyed(LONG_CONFIGS, [], fault)
+    yield from surveyed(changed(LONG_CONFIGS, (40 + 49, "01")), [], fault)
+    yield from surveyed(changed(LONG_CONFIGS, (40 + 49, "01"), (116 + 55, "6c")), [found("newer-qualifier", 96)], fault)
     both = changed(LONG_CONFIGS, (40 + 49, "0161"), (116 + 55, "6c"))
-    yield surveyed(both, [found("newer-qualifier", 20, 2)], fault)
+    yield from surveyed(both, [found("newer-qualifier", 20, 2)], fault)
 
 
 # ---- rows and their qualifiers, beside a box
@@ -112,16 +122,16 @@ SURVEYS = [
 
 def of_surveys():
     for base, overlay, box, told in SURVEYS:
-        words, files = ("survey layers", {}) if box is None else ("survey layers box", {"box": box})
+        words, files = ("layers", {}) if box is None else ("layers box", {"box": box})
         status = any(line.startswith("warning") for line in told)
-        yield Case(words, lines(told), "", status, **files_of([base, (overlay, [])]), **files)
+        yield from in_both_forms(words, lines(told), status, **files_of([base, (overlay, [])]), **files)
 
 
 def of_refused_tables():
     """A value of nine bytes, in a table with offsets of 16 bits and in one without."""
     table = changed(TABLE_A, (408, "09"))
-    yield surveyed(table, [], "Value 408")
-    yield surveyed(changed(table, SHORT_OFFSETS), [found("16-bit-offsets", 348)], "Value 408")
+    yield from surveyed(table, [], "Value 408")
+    yield from surveyed(changed(table, SHORT_OFFSETS), [found("16-bit-offsets", 348)], "Value 408")
 
 
 # ---- certificates for people

@@ -750,6 +750,12 @@ def of_maps():
         overlay = NamedTable(resources, {}).bytes
         text = "[" + ",\n ".join(f'["{target_id}","{own}"]' for target_id, own in pairs) + "]\n"
         yield Case("map target overlay", text, lines(told), int(bool(told)), target=target, overlay=overlay)
+    overlay = NamedTable([Resource("s", "d", [(ANY, (0x10, 5))]), Resource("s", "a", [(ANY, (1, 0x7F010000))])], {}).bytes
+    yield Case("map --json target overlay", lines([
+        f'{{"line":"pair","name":"s/a","own":"{second}","target":"{first}"}}',
+        f'{{"id":"{first}","line":"unmapped","name":"s/d"}}',
+        f'{{"from":{{"id":"{second}","name":"s/a"}},"line":"astray","to":{{"id":"{first}","name":"s/d"}}}}',
+    ]), "", 1, target=target, overlay=overlay)
 
 
 # ---- what a survey warns of, and characters that end lines or turn their direction
@@ -762,6 +768,8 @@ def of_surveys():
     yield Case("survey layers", sdk, **files_of([whole]))
     once = letters(0x7F, "k", 2)
     yield Case("survey layers", "warning shared-names 1 first 0x7f020000\n", "", 1, **files_of([shared, once]))
+    as_json = '{"count":1,"first":{"id":"0x7f020000"},"line":"shared-names","warning":true}\n'
+    yield Case("survey --json layers", as_json, "", 1, **files_of([shared, once]))
     yield Case("survey layers", **files_of([shared, (once, SAME)]))
     yield Case("survey layers", **files_of([shared, letters(0x02, "k")]))
     for language, region in (("en", "XA"), ("ar", "XB")):

@@ -132,31 +132,48 @@ def as_json(line):
     return dumps(line, ensure_ascii=False, separators=(",", ":"), sort_keys=True)
 
 
-def row_as_json(path, word, **qualifiers):
-    return {"config": {"qualifiers": qualifiers, "word": word}, "layer": int(path == PORCELAIN), "path": path}
+def row_as_json(path, words, **qualifiers):
+    return {"config": {"qualifiers": qualifiers, "words": words}, "layer": int(path == PORCELAIN), "path": path}
+
+
+def string_as_json(text, index):
+    return {"stored": {"kind": 3, "word": index}, "string": text, "xml": f'"{text}"'}
 
 
 def candidate_as_json(words, did, value, row, **reason):
-    held = {"string": value, "xml": f'"{value}"'} if "/" not in value else {"reference": value, "xml": f"@{value}"}
-    return as_json({"decision": {"did": did, "words": words, **reason}, "from": row, "holds": {"value": held}, "line": "candidate"})
+    return as_json({"decision": {"did": did, "words": words, **reason}, "from": row, "holds": {"value": value}, "line": "candidate"})
 
 
-END_AS_JSON = {"from": row_as_json(PORCELAIN, "de", locale="de"), "value": {"string": "Porzellankanne", "xml": '"Porzellankanne"'}}
+GERMAN_JUG = string_as_json("Porzellankanne", 1)
+END_AS_JSON = {"from": row_as_json(PORCELAIN, "de", locale="de"), "value": GERMAN_JUG}
+TO_THE_TITLE = {"reference": "string/title", "stored": {"kind": 1, "word": 0x7F050000}, "xml": "@string/title"}
 QUERIED_AS_JSON = lines(
     as_json({"end": END_AS_JSON, "id": "0x7f050000", "line": "end", "name": "string/title"}), '{"count":1,"line":"set-aside"}'
 )
 EQUAL = "took over: same configuration, of an overlay"
 EXPLAINED_AS_JSON = lines(
     as_json({"id": "0x7f050002", "line": "look-up", "name": "string/brand"}),
-    candidate_as_json("first", "first", "string/title", row_as_json(TEAPOT, "(default)")),
+    candidate_as_json("first", "first", TO_THE_TITLE, row_as_json(TEAPOT, "(default)")),
     as_json({"id": "0x7f050000", "line": "look-up", "name": "string/title"}),
-    candidate_as_json("first", "first", "Teapot", row_as_json(TEAPOT, "(default)")),
-    candidate_as_json("took over: locale (P3)", "took over", "Teekanne", row_as_json(TEAPOT, "de", locale="de"), rule="P3"),
+    candidate_as_json("first", "first", string_as_json("Teapot", 0), row_as_json(TEAPOT, "(default)")),
     candidate_as_json(
-        "no match: locale", "no match", "Théière", row_as_json(TEAPOT, "fr-rCA", locale="fr-CA"), qualifier="locale"
+        "took over: locale (P3)", "took over", string_as_json("Teekanne", 2), row_as_json(TEAPOT, "de", locale="de"), rule="P3"
     ),
-    candidate_as_json("kept out: locale (P3)", "kept out", "Porcelain teapot", row_as_json(PORCELAIN, "(default)"), rule="P3"),
-    candidate_as_json(EQUAL, "took over equal", "Porzellankanne", row_as_json(PORCELAIN, "de", locale="de")),
+    candidate_as_json(
+        "no match: locale",
+        "no match",
+        string_as_json("Théière", 5),
+        row_as_json(TEAPOT, "fr-rCA", locale="fr-CA"),
+        qualifier="locale",
+    ),
+    candidate_as_json(
+        "kept out: locale (P3)",
+        "kept out",
+        string_as_json("Porcelain teapot", 0),
+        row_as_json(PORCELAIN, "(default)"),
+        rule="P3",
+    ),
+    candidate_as_json(EQUAL, "took over equal", GERMAN_JUG, row_as_json(PORCELAIN, "de", locale="de")),
     as_json({"end": END_AS_JSON, "line": "end"}),
 )
 IN_NOTATION = {
@@ -191,15 +208,21 @@ BAG = lines(
     "0x7f010004 layer 0 hex 0x00000005",
     "0x7f010005 layer 0 ?0x7f010000",
 )
+
+
+def bits(kind, word):
+    return {"kind": kind, "word": word}
+
+
 BAG_JSON = json_lines(
     *(
-        {"id": name, "key": key, "layer": 0, "line": "row", "path": "rich.arsc", "value": value}
-        for name, key, value in (
-            ("0x01010433", "0x01010433", {"reference": "color/accent", "xml": "@color/accent"}),
-            ("0x7f010000", "attr/cardColor", {"kind": 28, "word": 0xFF111111, "xml": "#ff111111"}),
-            ("0x7f010001", "attr/cardGap", {"kind": 5, "word": 12289, "xml": "48dp"}),
-            ("0x7f010004", "attr/sides", {"kind": 17, "word": 5, "xml": "0x5"}),
-            ("0x7f010005", "attr/chained", {"attribute": "attr/cardColor", "xml": "?attr/cardColor"}),
+        {"from": {"layer": 0, "path": "rich.arsc"}, "id": name, "key": key, "line": "row", "value": {"stored": stored, **value}}
+        for name, key, stored, value in (
+            ("0x01010433", "0x01010433", bits(1, 0x7F040002), {"reference": "color/accent", "xml": "@color/accent"}),
+            ("0x7f010000", "attr/cardColor", bits(28, 0xFF111111), {**bits(28, 0xFF111111), "xml": "#ff111111"}),
+            ("0x7f010001", "attr/cardGap", bits(5, 12289), {**bits(5, 12289), "xml": "48dp"}),
+            ("0x7f010004", "attr/sides", bits(17, 5), {**bits(17, 5), "xml": "0x5"}),
+            ("0x7f010005", "attr/chained", bits(2, 0x7F010000), {"attribute": "attr/cardColor", "xml": "?attr/cardColor"}),
         )
     )
 )
@@ -219,10 +242,10 @@ NOTATED = lines(
     "set-aside 1",
 )
 AT_198 = {"density": 198, "locale": "de-AT", "night": 1, "orientation": 1, "screenSize": 2, "sdk": 21, "smallestWidthDp": 320}
-IN_THE_APP = {"config": {"qualifiers": {"density": 320, "sdk": 4}, "word": "xhdpi-v4"}, "layer": 0, "path": TEAPOT}
+IN_THE_APP = {"config": {"qualifiers": {"density": 320, "sdk": 4}, "words": "xhdpi-v4"}, "layer": 0, "path": TEAPOT}
 OF_THE_OVERLAY = {"layer": 1, "path": PORCELAIN}
-IN_THE_OVERLAY = {"config": {"qualifiers": {}, "word": "(default)"}, **OF_THE_OVERLAY}
-DP_13, DP_16 = ({"kind": 5, "word": word, "xml": xml} for word, xml in ((3329, "13dp"), (4097, "16dp")))
+IN_THE_OVERLAY = {"config": {"qualifiers": {}, "words": "(default)"}, **OF_THE_OVERLAY}
+DP_13, DP_16 = ({**bits(5, word), "stored": bits(5, word), "xml": xml} for word, xml in ((3329, "13dp"), (4097, "16dp")))
 REJECTED_JSON = json_lines(
     {
         "claimed": {"from": OF_THE_OVERLAY, "value": DP_16},
@@ -230,15 +253,26 @@ REJECTED_JSON = json_lines(
             {"device": AT_198, "end": {"from": IN_THE_APP, "value": DP_13}},
             {"device": {**AT_198, "density": 197}, "end": {"from": IN_THE_OVERLAY, "value": DP_16}},
         ],
-        "goal": 1,
+        "goal": {"id": "0x7f030000", "name": "dimen/handle"},
         "line": "rejected",
-        "name": "dimen/handle",
         "node": 0,
+        "place": 1,
         "rule": "N6",
         "ruleName": "MixedTrace",
     },
     {"failed": 1, "goals": 2, "line": "failed"},
     {"count": 1, "line": "set-aside"},
+)
+DP_12, DP_24 = ({**bits(5, word), "stored": bits(5, word), "xml": xml} for word, xml in ((3073, "12dp"), (6145, "24dp")))
+UNUSED_JSON = json_lines(
+    *(
+        {"from": row, "id": "0x7f030000", "line": use, "name": "dimen/handle", "overlay": False, "value": value}
+        for use, row, value in (
+            ("overlaid", row_as_json(TEAPOT, "(default)"), DP_12),
+            ("unused", row_as_json(TEAPOT, "sw600dp-v13", sdk=13, smallestWidthDp=600), DP_24),
+        )
+    ),
+    {"bytes": 16, "count": 4, "line": "rows", "overlaid": 1, "unmapped": 0, "unused": 1},
 )
 MADE = lines(
     '{"goals":[{"id":"0x7f050000","nodes":[{"coord":"locale","in":["de-AT","de-CH","de-DE"]},'
@@ -398,7 +432,7 @@ def box_runs():
 
 
 def change_runs():
-    """Runs of the command that compares two stacks on all devices of a box."""
+    """Runs of the commands that compare two stacks on all devices of a box, or tell which rows none loads."""
     change, of_change = [LAYERS, COPPER, PHONES], [*LAYER_FILES, *COPPER_FILES, PHONES]
     yield Run("diff", ["diff", *change], of_change, 1, DIFFERENT)
     title = [line for line in DIFFERENT.splitlines() if "/title" in line]
@@ -411,6 +445,7 @@ def change_runs():
     yield Run("diff of the same", of_same, [*LAYER_FILES, *LAYER_FILES, PHONES], out=lines(ASIDE, "same 3"))
     limited = ["diff", "--max-nodes", "1", *change, "string/title"]
     yield Run("node limit of a change", limited, of_change, 1, "node limit\n")
+    yield Run("unused --json", ["unused", "--json", LAYERS, PHONES, "dimen/handle"], [*LAYER_FILES, PHONES], 1, UNUSED_JSON)
 
 
 def stopped_runs():

@@ -83,7 +83,7 @@ def of_reports():
     overlay = named_table({"s/k": Bag(0, [(0x01010001, "@s/m")]), "s/m": 5})
     yield Case("map target overlay", f'[["{ID}","{ID}"]]\n', astray, 1, target=TABLE_B, overlay=overlay)
     yield from of_surveys()
-    yield surveyed(CUT, [], "Chunk Oversize 0")
+    yield from surveyed(CUT, [], "Chunk Oversize 0")
     yield from of_certificates()
     for certificate, told in map(deep_tree, (True, False)):
         yield Case("show --raw layers certificate", lines(told), certificate=certificate, **files_of([MEDIUM_AND_HIGH]))
