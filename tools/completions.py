@@ -256,7 +256,7 @@ def zsh(page):
 
 # What fish completes of each kind.
 FISH_WORDS = {
-    "file": "__fish_complete_path", "layers": "__restool_layers", "device": "__fish_complete_path",
+    "file": "__fish_complete_path (commandline -ct)", "layers": "__restool_layers", "device": "__fish_complete_path (commandline -ct)",
     "name": "__restool_names", "attr": "__restool_names attr", "style": "__restool_names style",
 }
 

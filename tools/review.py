@@ -1,5 +1,6 @@
 #!/usr/bin/env python3
-"""Prints a page for reviewers: all that `restool diff` says of a change, as one file of HTML that needs nothing else.
+"""Prints a page for reviewers: all that `restool diff` says of a change, and what `restool unused` says of the new overlays, as one
+file of HTML that needs nothing else.
 
     review.py [--locales android] [--max-nodes N] [--restool PATH] OLD NEW BOX [NAME..] >review.html
 
@@ -21,6 +22,12 @@ from typing import NamedTuple
 from unicodedata import category
 
 CHANGES = "changed", "added", "removed"
+USES = {
+    "unused": "no device loads it",
+    "overlaid": "some device would load it without the overlays",
+    "unmapped": "the id map of its overlay has it for no resource",
+}
+"""What becomes of a row that no device loads."""
 ALONE = {"added": "the new layers", "removed": "the old layers"}
 COUNTED = {
     "shared-names": "ids with a name that stands for another id; they are compared by ids, which may have moved",
@@ -31,6 +38,8 @@ NONE = {"absent": "absent", "tooManyReferences": "too many references", "tooMany
 """How it is told that a resource says nothing."""
 COLORS = range(0x1C, 0x20)
 """The kinds of values that are colors."""
+LONGEST_LIST = 1 << 20
+"""How many bytes of a file are read to see whether it is a list of layers."""
 NO_LOCALE = "no locale"
 NO_TYPE = "no name"
 """Stands for the type of what is compared by its id."""
@@ -53,12 +62,20 @@ class ReviewError(Exception):
 
 
 class Lines(NamedTuple):
-    """What the program says: the lines of changes, the lines of what is counted of both lists of layers, and how many
+    """What `diff` says: the lines of changes, the lines of what is counted of both lists of layers, and how many
     names say the same, None for `node limit`."""
 
     changes: list
     counts: dict
     same: int
+
+
+class Rows(NamedTuple):
+    """What `unused` says: the lines of rows that the page has, and the line of totals; or why it says nothing."""
+
+    lines: list
+    totals: dict
+    why: str
 
 
 # ---- markup
@@ -236,8 +253,17 @@ def type_of(line):
 
 
 def locales_of(line):
-    """The locales that the devices of a line name; none where it is told of all locales."""
+    """The locales that the devices of a line name, or the one of a row; none where it is told of all locales."""
+    if line["line"] in USES:
+        return [it for it in [line["from"]["config"]["qualifiers"].get("locale")] if it]
     return line.get("says", {}).get("devices", {}).get("locale", [])
+
+
+def is_for(own, locale):
+    """Whether a row of a locale may be for devices with another: those of its language, and of its region, if it has one."""
+    language, _, region = own.partition("-")
+    parts = locale.split("-")
+    return own == locale or (language == parts[0] and region in ("", parts[-1]))
 
 
 def set_text(values):
@@ -268,41 +294,54 @@ def cells_of(line):
 
 
 class Filters:
-    """What a reader may choose: kinds of changes, types and locales, each with how many lines have it. Types and
-    locales are told by numbers, since a table may name them anyhow."""
+    """What a reader may choose: kinds of changes and of rows, types and locales, each with how many lines have it.
+    Types and locales are told by numbers, since a table may name them anyhow."""
 
-    def __init__(self, changes):
-        self.all = len(changes)
-        self.kinds = {kind: sum(line["line"] == kind for line in changes) for kind in CHANGES}
-        self.types = counted(map(type_of, changes))
-        self.locales = counted(locale for line in changes for locale in locales_of(line))
-        self.everywhere = sum(not locales_of(line) for line in changes)
+    def __init__(self, changes, rows):
+        self.changes, self.rows = changes, rows
+        lines = changes + rows
+        self.all = len(lines)
+        self.kinds = Counter(line["line"] for line in lines)
+        self.types = counted(map(type_of, lines))
+        self.listed = sorted({locale for line in lines for locale in locales_of(line)})
+        self.locales = Counter(locale for line in lines for locale in self.locales_for(line))
+        self.everywhere = sum(not locales_of(line) for line in lines)
         self.type_ids = {name: f"type-{place}" for place, name in enumerate(self.types)}
-        self.locale_ids = {name: f"locale-{place}" for place, name in enumerate(self.locales)}
+        self.locale_ids = {name: f"locale-{place}" for place, name in enumerate(self.listed)}
+
+    def locales_for(self, line):
+        """Those with which a line is shown."""
+        own = locales_of(line)
+        return [it for it in self.listed if is_for(own[0], it)] if own and line["line"] in USES else own
 
     def classes(self, line):
         """The classes of a line."""
-        locales = [self.locale_ids[locale] for locale in locales_of(line)] or ["everywhere"]
+        locales = [self.locale_ids[locale] for locale in self.locales_for(line)] or ["everywhere"]
         return " ".join(["change", line["line"], self.type_ids[type_of(line)], *locales])
 
     def rules(self):
         """The rules that hide what is not chosen. Of kinds and of types all are shown where none is chosen."""
-        for choices, names in (("kinds", CHANGES), ("types", self.type_ids.values())):
+        kinds = [*CHANGES, *USES] if self.rows else CHANGES
+        for choices, names in (("kinds", kinds), ("types", self.type_ids.values())):
             for name in names:
                 yield f"body:has(.{choices} :checked):not(:has(#{name}:checked)) .change.{name} {{ display: none }}"
         for name in self.locale_ids.values():
             yield f"body:has(#{name}:checked) .change:not(.{name}, .everywhere) {{ display: none }}"
-        yield f'.shown::before {{ content: counter(shown) " of {self.all} shown" }}'
+        for name, lines in (("of-changes", self.changes), ("of-rows", self.rows)):
+            yield f'.{name} + .shown::before {{ content: counter(shown) " of {len(lines)} shown" }}'
+
+    def of_kinds(self, title, kinds):
+        return group("kinds", title, [choice("checkbox", "kind", kind, kind, self.kinds[kind]) for kind in kinds])
 
     def html(self):
-        kinds = [choice("checkbox", "kind", kind, kind, count) for kind, count in self.kinds.items()]
         types = [choice("checkbox", "type", self.type_ids[name], name, count) for name, count in self.types.items()]
         locales = [
-            choice("radio", "locale", self.locale_ids[name], name or NO_LOCALE, count + self.everywhere)
-            for name, count in self.locales.items()
+            choice("radio", "locale", self.locale_ids[name], name or NO_LOCALE, self.locales[name] + self.everywhere)
+            for name in self.listed
         ]
         any_locale = choice("radio", "locale", "any", "any", self.all, checked="checked")
-        groups = [group("kinds", "Change", kinds), group("types", "Type", types)]
+        groups = [self.of_kinds("Change", CHANGES), *([self.of_kinds("Row", USES)] if self.rows else [])]
+        groups.append(group("types", "Type", types))
         groups += [group("locales", "Devices with the locale", [any_locale, *locales])] if locales else []
         groups.append(element("button", "Show all", type="reset"))
         # (a form that no key sends anywhere)
@@ -326,17 +365,60 @@ def choice(kind, name, own, title, count, **others):
     return element("label", chosen, title, " ", element("small", str(count)))
 
 
-def changes_html(filters, changes):
-    """The table of all lines."""
-    columns = ("Name", "Before", "After", "Devices")
-    head = element("tr", *(element("th", title, scope="col") for title in columns))
-    names = [None, *(line["name"] for line in changes)]
+def table_html(filters, lines, cells_of, columns, name):
+    """The table of lines, of which this makes the cells behind the name."""
+    head = element("tr", *(element("th", title, scope="col") for title in ("Name", *columns)))
+    names = [None, *(line["name"] for line in lines)]
     rows = []
-    for line, (name_before, name) in zip(changes, pairwise(names)):
-        title = element("th", element("code", name), scope="row", class_="again" if name == name_before else "")
+    for line, (name_before, name_of) in zip(lines, pairwise(names)):
+        title = element("th", element("code", name_of), scope="row", class_="again" if name_of == name_before else "")
         rows.append(element("tr", title, *cells_of(line), class_=filters.classes(line)))
     parts = element("thead", head), element("tbody", joined(rows, "\n"))
-    return element("table", *parts, class_="changes", translate="no")
+    table = element("table", *parts, class_=f"lines {name}", translate="no")
+    return element("section", table, element("p", class_="shown"))
+
+
+# ---- rows that no device loads
+
+
+def row_cells(line):
+    """What stands behind the name of a row."""
+    place = line["from"]
+    layer = element("code", place["path"]) if "path" in place else f"layer {place['layer']}"
+    yield element("td", value_html(line["value"]) if "value" in line else bag_size(line["bag"]), class_="value")
+    yield element("td", element("code", place["config"]["words"]), " in ", layer, class_="place")
+    yield element("td", element("b", line["line"]), class_="note use")
+
+
+def bag_size(bag):
+    parent = [", parent ", element("code", bag["parent"]["name"])] if "parent" in bag else []
+    return element("span", f"a bag of {counted_of(bag['rows'], 'row')}", *parent, class_="none")
+
+
+def rows_html(filters, rows):
+    """The rows with what is said of them; nothing where there are none."""
+    title = element("h2", "Rows that no device loads")
+    if rows.why:
+        return joined([title, element("p", rows.why, class_="warning")])
+    if not rows.lines:
+        return Html()
+    told = [joined([element("b", use), f": {words}"]) for use, words in USES.items()]
+    about = element("p", "Rows of overlays, and rows that overlays hide. ", joined(told, "; "), ".", class_="note")
+    table = table_html(filters, rows.lines, row_cells, ("Value", "Row", "Use"), "of-rows")
+    return joined([title, about, chips(totals_of(rows)), table])
+
+
+def totals_of(rows):
+    """How many rows of each kind there are, of all that are asked for."""
+    totals, of_overlays = rows.totals, sum(line["line"] == "unused" for line in rows.lines)
+    return [
+        counted_of(totals["count"], "row"),
+        f"{of_overlays} unused of overlays",
+        f"{totals['unused'] - of_overlays} unused of other layers, not listed",
+        f"{totals['overlaid']} overlaid",
+        f"{totals['unmapped']} unmapped",
+        f"{counted_of(totals['bytes'], 'byte')} of unused rows",
+    ]
 
 
 # ---- the page
@@ -360,7 +442,8 @@ body {
 }
 h1 { margin: 0 0 .75rem; font-size: 1.5rem }
 code { font: .9em/1.5 ui-monospace, monospace }
-main { display: flex; flex-direction: column }
+section { display: flex; flex-direction: column }
+h2 { margin: 2rem 0 .5rem; font-size: 1.2rem }
 .inputs { display: grid; grid-template-columns: max-content 1fr; gap: .15rem .9rem; margin: 0 0 1rem }
 .inputs dt { color: var(--soft) }
 .inputs dd { margin: 0 }
@@ -384,19 +467,21 @@ label:has(:focus-visible), :is(button, summary):focus-visible { outline: 2px sol
 input { margin: 0 }
 small, .none, .all, .note { color: var(--soft) }
 .shown { order: -1; margin: 0 0 .25rem; color: var(--soft); font-size: .9rem; text-align: end }
-.changes { width: 100%; border-collapse: collapse; table-layout: fixed; counter-reset: shown }
-.changes > thead th {
+.lines { width: 100%; border-collapse: collapse; table-layout: fixed; counter-reset: shown }
+.lines > thead th {
   position: sticky; top: 0; z-index: 1; background: var(--ground); box-shadow: inset 0 -2px var(--line);
 }
-.changes > * > tr > * { padding: .5rem .7rem; text-align: start; vertical-align: top }
-.changes > thead th:last-child { width: 24% }
-.changes > thead th:first-child { width: 23% }
+.lines > * > tr > * { padding: .5rem .7rem; text-align: start; vertical-align: top }
+.lines > thead th:last-child { width: 24% }
+.lines > thead th:first-child { width: 23% }
+.of-rows > thead th:last-child { width: 14% }
 .change { counter-increment: shown; border-block-end: 1px solid var(--line) }
 .change > th { box-shadow: inset .25rem 0 var(--kind); font-weight: 600 }
 .change > .again { color: var(--soft); font-weight: 400 }
-.changed { --kind: var(--changed) }
+.changed, .overlaid { --kind: var(--changed) }
 .added { --kind: var(--added) }
-.removed { --kind: var(--removed) }
+.unmapped { --kind: var(--soft) }
+.removed, .unused { --kind: var(--removed) }
 .note b { color: var(--kind) }
 .text { display: inline-block; white-space: pre-wrap }
 ins, del {
@@ -423,23 +508,25 @@ details dl { margin: .4rem 0 0; font-size: .9rem }
 details dt { color: var(--soft) }
 details dd { margin: 0 0 .25rem }
 @media screen and (max-width: 48rem) {
-  .changes, .changes > tbody { display: block }
-  .changes > thead { position: absolute; width: 1px; height: 1px; overflow: hidden; clip-path: inset(50%) }
+  .lines, .lines > tbody { display: block }
+  .lines > thead { position: absolute; width: 1px; height: 1px; overflow: hidden; clip-path: inset(50%) }
   .change {
     display: grid; grid-template-columns: 1fr 1fr; margin: 0 0 .75rem; border: 1px solid var(--line);
     border-inline-start: .25rem solid var(--kind); border-radius: .4rem;
   }
   .change > th { grid-column: 1 / -1; box-shadow: none; background: var(--raised) }
-  .change > [colspan], .change > .devices, .change > :has(.bag) { grid-column: 1 / -1 }
+  .change > :is([colspan], .devices, .use), .change > :has(.bag) { grid-column: 1 / -1 }
   .change > .devices:empty { display: none }
   .change > .before::before { content: "before"; display: block; color: var(--soft); font-size: .8rem }
   .change > .after::before { content: "after"; display: block; color: var(--soft); font-size: .8rem }
+  .change > .value::before { content: "value"; display: block; color: var(--soft); font-size: .8rem }
+  .change > .place::before { content: "row"; display: block; color: var(--soft); font-size: .8rem }
 }
 @media print {
   body { max-width: none; padding: 0; font-size: 10pt }
-  main { display: block }
+  section { display: block }
   .filters :is(label, fieldset):not(:has(:checked)), .locales:has(#any:checked), .filters button { display: none }
-  .changes > thead th { position: static }
+  .lines > thead th { position: static }
   .change { break-inside: avoid }
   ins, del { print-color-adjust: exact; -webkit-print-color-adjust: exact }
 }
@@ -450,6 +537,8 @@ NODE_LIMIT = (
     "node limit: the trees of these names have more nodes together than the limit, so nothing is told. Allow more with"
     " --max-nodes, ask for fewer names, or make the box smaller."
 )
+NOTHING = element("p", "Nothing differs on any device.")
+NO_ROWS = Rows([], {}, "")
 
 
 def inputs_html(asked):
@@ -481,22 +570,26 @@ def counts_html(lines):
         element("p", f"{word}: {COUNTED[word]}: {counts['old']} before, {counts['new']} after", class_="warning")
         for word, counts in lines.counts.items()
     ]
-    return joined([element("ul", *(element("li", each) for each in told), class_="counts"), *warnings])
+    return joined([chips(told), *warnings])
+
+
+def chips(told):
+    return element("ul", *(element("li", each) for each in told), class_="counts")
 
 
 def counted_of(count, word):
     return f"{count} {word}" if count == 1 else f"{count} {word}s"
 
 
-def page_of(asked, lines):
-    filters = Filters(lines.changes)
+def page_of(asked, lines, rows):
+    filters = Filters(lines.changes, rows.lines)
     if lines.same is None:
         parts = [element("p", NODE_LIMIT, class_="warning")]
-    elif not lines.changes:
-        parts = [counts_html(lines), element("p", "Nothing differs on any device.")]
     else:
-        table = changes_html(filters, lines.changes)
-        parts = [counts_html(lines), filters.html(), element("main", table, element("p", class_="shown"))]
+        columns = "Before", "After", "Devices"
+        table = table_html(filters, lines.changes, cells_of, columns, "of-changes") if lines.changes else NOTHING
+        shown = [filters.html()] if filters.all else []
+        parts = [counts_html(lines), *shown, element("main", table, rows_html(filters, rows))]
     rules = "\n".join(filters.rules())
     head = [
         Html(opened("meta", {"charset": "utf-8"})),
@@ -513,21 +606,35 @@ def page_of(asked, lines):
 # ---- the program
 
 
+def lines_in(said):
+    """The lines before the last, and the last, of the bytes that the program prints."""
+    *lines, last = [json.loads(line) for line in said.removesuffix(b"\n").split(b"\n")]
+    return lines, last
+
+
 def read_lines(said):
-    """What the program says, of the bytes that it prints."""
-    try:
-        *lines, last = [json.loads(line) for line in said.removesuffix(b"\n").split(b"\n")]
-        changes = [line for line in lines if line["line"] in CHANGES]
-        counts = {line["line"]: line for line in lines if line["line"] in COUNTED}
-        if len(changes) + len(counts) == len(lines) and last["line"] in ("same", "node limit"):
-            return Lines(changes, counts, last.get("count"))
-    except (ValueError, TypeError, KeyError):
-        pass
-    raise ReviewError("the program says what has no place on a page")
+    """What `diff` says."""
+    lines, last = lines_in(said)
+    changes = [line for line in lines if line["line"] in CHANGES]
+    counts = {line["line"]: line for line in lines if line["line"] in COUNTED}
+    if len(changes) + len(counts) < len(lines) or last["line"] not in ("same", "node limit"):
+        raise ValueError
+    return Lines(changes, counts, last.get("count"))
+
+
+def read_rows(said):
+    """What `unused` says of overlays, and then of what they stand over. The rest may be most of a table."""
+    lines, last = lines_in(said)
+    if last["line"] == "node limit" and not lines:
+        return Rows([], {}, NODE_LIMIT)
+    if last["line"] != "rows" or any(line["line"] not in USES for line in lines):
+        raise ValueError
+    told = [line for line in lines if line["overlay"]] + [line for line in lines if line["line"] == "overlaid"]
+    return Rows(told, last, "")
 
 
 def words_asked():
-    about = "Prints a page for reviewers: all that `restool diff` says of a change, as one file of HTML."
+    about = "Prints a page for reviewers: what a change of layers alters, and which rows of overlays no device loads."
     parser = argparse.ArgumentParser(description=about, allow_abbrev=False)
     parser.add_argument("--locales", metavar="RULE", help="with android compare locales as a phone does")
     parser.add_argument("--max-nodes", metavar="N", help="node limit of the trees that part the devices")
@@ -545,17 +652,49 @@ def program_at_hand():
     return beside if os.path.isfile(beside) else "restool"
 
 
-def ask(asked):
-    """What the program prints, and its status."""
+def ask(asked, command, *layers, messages=None):
+    """How the program ends that is asked this, and what it says; its messages too, where a pipe is given for them."""
     options = [] if asked.locales is None else ["--locales", asked.locales]
     options += [] if asked.max_nodes is None else ["--max-nodes", asked.max_nodes]
     program = asked.restool or program_at_hand()
-    words = [program, "diff", "--json", *options, "--", asked.old, asked.new, asked.box, *asked.names]
+    words = [program, command, "--json", *options, "--", *layers, asked.box, *asked.names]
     try:
-        done = subprocess.run(words, stdout=subprocess.PIPE)
+        return subprocess.run(words, stdout=subprocess.PIPE, stderr=messages)
     except OSError as error:
         raise ReviewError(f"{program} does not run; say with --restool where restool is") from error
-    return done.stdout, done.returncode
+
+
+def read_answer(done, read):
+    """What the program says, read so. Where it says nothing, this ends as it did."""
+    if not done.stdout or done.returncode not in (0, 1):
+        sys.exit(done.returncode if done.returncode > 0 else 1)
+    try:
+        return read(done.stdout)
+    except (ValueError, TypeError, KeyError) as error:
+        raise ReviewError("the program says what has no place on a page") from error
+
+
+def may_have_overlays(layers):
+    """Whether a word for layers, or a list of them, may have an overlay: behind a `+`, or with an id map."""
+    if "+" in layers:
+        return True
+    try:
+        with open(layers, "rb") as listed:
+            return any("map" in layer for layer in json.loads(listed.read(LONGEST_LIST)))
+    except (OSError, ValueError, TypeError, RecursionError):
+        return False
+
+
+def rows_asked(asked):
+    """The rows of the new layers. These may lack a name that the old ones have: then the program's message says so."""
+    if not may_have_overlays(asked.new):
+        return NO_ROWS
+    done = ask(asked, "unused", asked.new, messages=subprocess.PIPE if asked.names else None)
+    if asked.names and done.returncode == 1 and not done.stdout:
+        return Rows([], {}, done.stderr.decode().strip())
+    if done.stderr:
+        sys.stderr.buffer.write(done.stderr)
+    return read_answer(done, read_rows)
 
 
 def write(page):
@@ -570,14 +709,12 @@ def write(page):
 def main():
     asked = words_asked()
     try:
-        said, status = ask(asked)
-        if not said or status not in (0, 1):
-            sys.exit(status if status > 0 else 1)
-        lines = read_lines(said)
+        lines = read_answer(ask(asked, "diff", asked.old, asked.new), read_lines)
+        rows = NO_ROWS if lines.same is None else rows_asked(asked)
     except ReviewError as error:
         sys.exit(f"review: {error}")
-    write(page_of(asked, lines))
-    sys.exit(lines.same is None)
+    write(page_of(asked, lines, rows))
+    sys.exit(lines.same is None or rows.why == NODE_LIMIT)
 
 
 if __name__ == "__main__":
