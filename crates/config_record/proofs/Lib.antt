@@ -1,3 +1,4 @@
+pub mod KindSteps
 pub mod SeparatorSteps
 pub mod QualifierLemmas
 pub mod FillSteps

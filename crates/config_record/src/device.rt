@@ -9,8 +9,8 @@ ghost use Rattle.locales.specs.Text.{IsGiven};
 
 use crate::coord::{COORD_COUNT, Coord};
 use crate::fields::{DeviceFault, Fields, fill_numbers, locale_number_in};
-use crate::json::device_in_value;
-use json_input::read_value;
+use crate::json::device_of_members;
+use json_tokens::{MOST_DEPTH, Scratch, Tokens};
 use locales::{Locale, LocaleFault, LocaleRule};
 use std::alloc::Global;
 
@@ -68,8 +68,12 @@ impl Device {
     pub fn read_by(alloc: Global, json: &[u8], rule: LocaleRule) -> Result<Device, DeviceFault>
         ensures { GivesOr OutOfMemory device_numbers result (device_in_json_by rule json.now) }
     {
-        let value = read_value(alloc, json)?;
-        device_in_value(&value, rule)
+        let mut scratch = Scratch::new(alloc);
+        let mut tokens = Tokens::of(json, &mut scratch)?;
+        let mut slots = [None; COORD_COUNT];
+        let no_others = tokens.fields(MOST_DEPTH, &Coord::names(), &mut slots)?;
+        tokens.end()?;
+        device_of_members(&slots, no_others, rule)
     }
 
     /// The device of the numbers that are compared at each coordinate, in their order.

@@ -11,6 +11,7 @@ ghost use Rattle.config_record.specs.declared.fields.DeviceFault.TheVariants.{Sy
 
 use crate::coord::{COORD_COUNT, Coord};
 use json_input::JsonFault;
+use json_tokens::Malformed;
 use locales::{Locale, LocaleFault};
 use std::fmt::{self, Debug, Display, Formatter};
 use thiserror::Error;
@@ -62,6 +63,14 @@ impl From<JsonFault> for DeviceFault {
             JsonFault::Syntax => DeviceFault::Syntax,
             JsonFault::OutOfMemory => DeviceFault::OutOfMemory,
         }
+    }
+}
+
+impl From<Malformed> for DeviceFault {
+    ghost from_gives = { λ _ e. e ≡ Syntax };
+
+    fn from(_malformed: Malformed) -> DeviceFault {
+        DeviceFault::Syntax
     }
 }
 

@@ -2,7 +2,8 @@
 
 ghost use Rattle.std.specs.Prelude.{◌≡◌, ◌<◌, length, map, replicate, None, OnOk};
 ghost use Rattle.json_tokens.specs.json_input.Shape.{is_among};
-ghost use Rattle.json_tokens.specs.Standing.{value_at};
+ghost use Rattle.serde_json.specs.Data.{object, no_members};
+ghost use Rattle.json_tokens.specs.Standing.{value_at, members_at};
 ghost use Rattle.json_tokens.specs.Kind.{kind_of};
 ghost use Rattle.json_tokens.specs.Reads.{Reads};
 ghost use Rattle.json_tokens.specs.Fields.{fields, fields_seen, slots_seen, with_field};
@@ -24,13 +25,27 @@ impl<'a> Tokens<'a> {
         ensures value { Reads (fields_seen slots.new) (fields (map (λ name. name.now) names.now)) (value_at depth self.old) result self.new }
         ensures shorter { OnOk result (length self.new < length self.old) }
     {
-        clear(slots);
         if !self.enter_object(depth)? {
             return Ok(false);
         }
+        self.fields_left(depth - 1, names, slots)
+    }
+
+    /// The same of an object that was entered.
+    pub fn fields_left(
+        &mut self,
+        depth: usize,
+        names: &[&str],
+        slots: &mut [Option<Kind<'a>>],
+    ) -> Result<bool, Malformed>
+        requires { length slots.old ≡ length names.now }
+        ensures value { Reads (fields_seen slots.new) (λ found. fields (map (λ name. name.now) names.now) (object found)) (members_at depth no_members self.old) result self.new }
+        ensures shorter { OnOk result (length self.new < length self.old) }
+    {
+        clear(slots);
         let mut only = true;
         'members: while let Some(name) = self.next_member()? {
-            only &= self.field(depth - 1, name, names, slots)?;
+            only &= self.field(depth, name, names, slots)?;
         }
         Ok(only)
     }
