@@ -2,7 +2,10 @@ pub mod Filters
 pub mod Lent
 pub mod HalfSteps
 pub mod ChoiceSteps
+pub mod TokenSteps
+pub mod KeptSteps
 pub mod ReadSteps
+pub mod SlotSteps
 pub mod JoinSteps
 pub mod OrderSteps
 pub mod CountSteps

@@ -1,5 +1,5 @@
 -- The sets that are read are what a box has.
-use Rattle.std.proofs.Common.{◌≡◌, ◌≢◌, ℕ, ◌+◌, ◌<◌, ◌≤◌, ◌==◌, nat_lt, arith, List, [], ◌∷◌, ◌++◌, length, map, get_or, take, ◌^◌, zero-add, length-append, inl, inr, false, Option, Some, ok_or, Result, Ok, Err, IfOk, refl, sym, ap, subst, ◌∙◌}
+use Rattle.std.proofs.Common.{◌≡◌, ◌≢◌, ℕ, ◌+◌, ◌<◌, ◌≤◌, ◌==◌, nat_lt, arith, List, [], ◌∷◌, ◌++◌, length, map, get_or, take, ◌^◌, zero-add, length-append, inl, inr, false, Result, Ok, Err, IfOk, refl, sym, ap, subst, ◌∙◌}
 use Rattle.std.proofs.lemmas.Bool.{ltb-false, or_parts}
 use Rattle.std.specs.List.{list_any, range_with_len}
 use Rattle.std.specs.Borrow.{Bor}
@@ -9,11 +9,6 @@ use Rattle.std.proofs.lemmas.List.{get_or-map, map-append, take_more, length-map
 use Rattle.std.proofs.lemmas.List.FromFn.{get_or-range_with_len}
 use Rattle.std.proofs.Math.ListN.{get_or-append}
 use Rattle.std.proofs.Math.Seq.{get_or-append_seam}
-use Rattle.contract_words.specs.Faults.{◌>>=◌}
-use Rattle.serde_json.specs.Data.{Data}
-use Rattle.serde_json.specs.View.{view}
-use Rattle.serde_json.specs.declared.value.Value.{Value}
-use Rattle.json_input.specs.Each.{list_of, each}
 use Rattle.box_answers.specs.config_record.declared.coord.Coord.{Coord}
 use Rattle.box_answers.specs.config_record.declared.coord.Coord.TheVariants as coords
 use Rattle.box_answers.specs.config_record.Coord.{all_coords, place_of, greatest_of, greatest_of_device, is_outside}
@@ -33,10 +28,7 @@ use Rattle.box_answers.specs.Members.{sets_of, set_at, IsOfKind, IsSetAt, IsBox}
 use Rattle.box_answers.proofs.Coords.{next-coord, every-coord, all_coords-count}
 use Rattle.config_box.specs.BoxJson.{number_of_none, number_of_text}
 use Rattle.config_box.specs.declared.box_fault.BoxFault.{BoxFault}
-use Rattle.config_box.specs.declared.box_fault.BoxFault.TheVariants.{Shape}
 use Rattle.config_box.specs.Choices.{rising}
-use Rattle.config_box.specs.Written.{number_item, text_item, numbers_or_range, numbers_in, texts_in}
-use Rattle.config_box.specs.Written as written
 use Rattle.config_box.proofs.ChoiceSteps.{rising-increases, rising-few, rising-some, rising-each, each-not, Each}
 
 -- ---- numbers in their range
@@ -182,33 +174,6 @@ each-next P numbers new n before pushed last k q =
       | inr ne ↦ (let lt : k < length numbers = omega (arith, ap (λ (xs : List ℕ). length xs) pushed, length-append numbers (n ∷ [])) in
           subst P (sym (get_or-append numbers (n ∷ []) 0 k lt)) (before k lt))
     ])
-
--- ---- what a list says
-
-pub numbers-of : (value : Data) (items : List Value) (r : Result (List ℕ) BoxFault) → Some (map view items) ≡ list_of value → each number_item (map view items) ≡ r
-    → numbers_in value ≡ (r >>= λ numbers. Ok (written.NumbersOf numbers))
-unfolding numbers_in
-numbers-of value items r e given =
-    ap (λ (l : Option (List Data)). numbers_or_range l value) (sym e)
-    ∙ ap (λ (s : Result (List ℕ) BoxFault). s >>= λ numbers. Ok (written.NumbersOf numbers)) given
-
-pub texts-of : (value : Data) (items : List Value) (r : Result (List (List ℕ)) BoxFault) → Some (map view items) ≡ list_of value → each text_item (map view items) ≡ r
-    → texts_in value ≡ (r >>= λ texts. Ok (written.TextsOf texts))
-unfolding texts_in
-texts-of value items r e given =
-    ap (λ (l : Option (List Data)). ok_or l Shape >>= λ items. each text_item items >>= λ texts. Ok (written.TextsOf texts)) (sym e)
-    ∙ ap (λ (s : Result (List (List ℕ)) BoxFault). s >>= λ texts. Ok (written.TextsOf texts)) given
-
--- ---- a coordinate more
-
-pub firsts-next : {X : Type 0} (pairs : List (Coord × X)) (pair : Coord × X) (items : List Coord) (i : ℕ) (d : Coord) → map (λ p. p.0) pairs ≡ take i items → i < length items → pair.0 ≡ get_or items i d
-    → map (λ p. p.0) (pairs ++ pair ∷ []) ≡ take (i + 1) items
-firsts-next {X} pairs pair items i d before on is =
-    let first : (Coord × X) → Coord = λ p. p.0 in
-    map-append first pairs (pair ∷ [])
-    ∙ ap (λ (cs : List Coord). cs ++ pair.0 ∷ []) before
-    ∙ ap (λ (c : Coord). take i items ++ c ∷ []) is
-    ∙ sym (take_more items i d on)
 
 -- what is known of the sets so far
 pub record SetsSoFar (rule : LocaleRule) (sets : List NumberSet) (place : ℕ) : Type 0 where

@@ -2,6 +2,7 @@ pub mod Written
 pub mod Choices
 pub mod ByRule
 pub mod BoxJson
+pub mod Kept
 pub mod BoxSeen
 pub mod Tests
 pub mod Marks

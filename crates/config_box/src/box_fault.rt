@@ -6,6 +6,7 @@ ghost use Rattle.config_box.specs.declared.box_fault.BoxFault.TheVariants.{Synta
 
 use box_answers::Coord;
 use json_input::JsonFault;
+use json_tokens::Malformed;
 use std::alloc::{AllocError, AllocFailed};
 use std::fmt::{self, Debug, Display, Formatter};
 use thiserror::Error;
@@ -56,6 +57,14 @@ impl From<JsonFault> for BoxFault {
             JsonFault::Syntax => BoxFault::Syntax,
             JsonFault::OutOfMemory => BoxFault::OutOfMemory,
         }
+    }
+}
+
+impl From<Malformed> for BoxFault {
+    ghost from_gives = { λ _ e. e ≡ Syntax };
+
+    fn from(_malformed: Malformed) -> BoxFault {
+        BoxFault::Syntax
     }
 }
 

@@ -17,12 +17,11 @@ use crate::box_fault::BoxFault;
 use crate::half::half_of;
 use crate::joined_sets::{is_same, joined_sets};
 use crate::order::order_but;
-use crate::read::sets_in_value;
+use crate::read::sets_in_text;
 use crate::split::{OutOfMemory, Split, has_wrong_kind, shared_sets, with_set};
 use crate::test::Test;
 use crate::values::{Values, values_of};
 use box_answers::{Coord, Device, LocaleRule, NumberSet, Record, Sameness, set_at};
-use json_input::read_value;
 use std::alloc::Global;
 use std::cmp::Ordering;
 use std::marker::Model;
@@ -71,9 +70,8 @@ impl ConfigBox {
         ensures sets { IfOk result IsBox }
         ensures by_rule { IfOk result (IsByRule rule) }
     {
-        let value = read_value(alloc, json)?;
         Ok(ConfigBox {
-            sets: sets_in_value(alloc, &value, rule)?,
+            sets: sets_in_text(alloc, json, rule)?,
         })
     }
 

@@ -3,24 +3,23 @@
 ghost use Rattle.std.specs.Prelude.{◌^◌, ◌≡◌, ◌≢◌, ℕ, ◌<◌, map, length, slice_index, IfOk};
 ghost use Rattle.std.specs.List.{list_any};
 ghost use Rattle.contract_words.specs.Exact.{GivesOr};
-ghost use Rattle.serde_json.specs.View.{view};
 ghost use Rattle.json_input.specs.Each.{each};
 ghost use Rattle.box_answers.specs.NumberSet.{NumbersOf, LocalesOf, set_of};
 ghost use Rattle.box_answers.specs.config_record.declared.coord.Coord.TheVariants as coords;
 ghost use Rattle.box_answers.specs.config_record.Coord.{all_coords, is_outside};
 ghost use Rattle.box_answers.specs.Members.{sets_of, IsSetAt, IsBox};
 ghost use Rattle.config_box.specs.declared.box_fault.BoxFault.TheVariants.{OutOfMemory};
-ghost use Rattle.config_box.specs.BoxJson.{outside_fault, set_of_range, set_of_numbers, is_malformed, is_region_alone, number_of_none, number_of_text, set_of_texts, set_of_nothing, set_in, box_in_value};
+ghost use Rattle.config_box.specs.BoxJson.{outside_fault, set_of_range, set_of_numbers, is_malformed, is_region_alone, number_of_none, number_of_text, set_of_texts, set_of_nothing, set_in, box_in_by};
 ghost use Rattle.config_box.specs.ByRule.{IsOfRule, IsSetBy, IsByRule};
 ghost use Rattle.config_box.specs.Choices.{rising};
-ghost use Rattle.config_box.specs.BoxSeen.{written_seen, pair_seen, set_seen};
+ghost use Rattle.config_box.specs.BoxSeen.{written_seen, pair_seen, slot_seen, sets_in_slots, set_seen};
 
 use crate::box_fault::BoxFault;
 use crate::choice::{locales_of, narrowed, rising};
-use crate::written::{Written, written_in};
+use crate::written::{Slot, Written, slots_in};
 use box_answers::{Coord, LocaleFault, LocaleRule, NumberSet};
+use json_tokens::{MOST_DEPTH, Scratch, Tokens};
 use locales::read_locale;
-use serde_json::Value;
 use std::alloc::{AllocError, Global};
 use std::rc::Rc;
 
@@ -28,24 +27,64 @@ use std::rc::Rc;
 pub(crate) const MOST_VALUES: usize = 512;
 
 /// The sets of all coordinates.
-#[tactic(auto, unfolding(crate::specs::BoxJson::box_in_value))]
-pub(crate) fn sets_in_value(
+#[tactic(auto, using(json_tokens::proofs::Whole::text_steps))]
+pub(crate) fn sets_in_text(
     alloc: Global,
-    value: &Value,
+    json: &[u8],
     rule: LocaleRule,
 ) -> Result<Vec<NumberSet>, BoxFault>
-    ensures value { GivesOr OutOfMemory (λ sets. sets_of sets.items) result (box_in_value rule (view value.now)) }
+    ensures value { GivesOr OutOfMemory (λ sets. sets_of sets.items) result (box_in_by rule json.now) }
     ensures sets { IfOk result (λ sets. IsBox (sets_of sets.items)) }
     ensures by_rule { IfOk result (λ sets. IsByRule rule (sets_of sets.items)) }
 {
-    let written = written_in(alloc, value)?;
+    let mut scratch = Scratch::new(alloc);
+    let mut tokens = Tokens::of(json, &mut scratch)?;
+    let slots = slots_in(alloc, &mut tokens, MOST_DEPTH)?;
+    tokens.end()?;
+    let Some(slots) = slots else {
+        return Err(BoxFault::Shape);
+    };
+    sets_of_slots(alloc, slots.as_slice(), rule)
+}
+
+// A wrong shape at any coordinate comes before every other fault.
+fn sets_of_slots(
+    alloc: Global,
+    slots: &[Slot<'_>],
+    rule: LocaleRule,
+) -> Result<Vec<NumberSet>, BoxFault>
+    requires { map (λ slot. slot.coord) slots.now ≡ all_coords }
+    ensures value { GivesOr OutOfMemory (λ sets. sets_of sets.items) result (sets_in_slots rule slots.now) }
+    ensures sets { IfOk result (λ sets. IsBox (sets_of sets.items)) }
+    ensures by_rule { IfOk result (λ sets. IsByRule rule (sets_of sets.items)) }
+{
+    let written = written_of_each(alloc, slots)?;
     sets_of_each(alloc, written.as_slice(), rule)
+}
+
+// Where no shape is wrong.
+#[tactic(auto, using(json_input::proofs::EachSteps::each_steps))]
+fn written_of_each<'s, 'a>(
+    alloc: Global,
+    slots: &'s [Slot<'a>],
+) -> Result<Vec<(Coord, &'s Written<'a>)>, BoxFault>
+    ensures value { GivesOr OutOfMemory (λ pairs. map pair_seen pairs.items) result (each slot_seen slots.now) }
+    ensures coords { IfOk result (λ pairs. map (λ pair. pair.0) pairs.items ≡ map (λ slot. slot.coord) slots.now) }
+{
+    let mut pairs = Vec::with_capacity(alloc, slots.len())?;
+    for slot in slots {
+        let Some(written) = &slot.written else {
+            return Err(BoxFault::Shape);
+        };
+        pairs.push((slot.coord, written))?;
+    }
+    Ok(pairs)
 }
 
 #[tactic(auto, using(json_input::proofs::EachSteps::each_item_steps))]
 fn sets_of_each(
     alloc: Global,
-    written: &[(Coord, Written)],
+    written: &[(Coord, &Written<'_>)],
     rule: LocaleRule,
 ) -> Result<Vec<NumberSet>, BoxFault>
     requires { map (λ pair. pair.0) written.now ≡ all_coords }

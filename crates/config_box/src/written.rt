@@ -1,26 +1,29 @@
-//! What a JSON value says of the coordinates of a box.
+//! What a JSON text says of the coordinates of a box.
 
-ghost use Rattle.std.specs.Prelude.{◌≡◌, map, IfOk};
-ghost use Rattle.contract_words.specs.Exact.{GivesOr};
-ghost use Rattle.serde_json.specs.View.{view};
-ghost use Rattle.serde_json.specs.Find.{get};
-ghost use Rattle.json_input.specs.Each.{each};
-ghost use Rattle.box_answers.specs.config_record.Coord.{all_coords, name_of};
-ghost use Rattle.config_box.specs.declared.box_fault.BoxFault.TheVariants.{OutOfMemory};
-ghost use Rattle.config_box.specs.Written.{number_item, text_item, number_member, range_in, numbers_in, texts_in, value_at, member_at, written_at, written_in};
+ghost use Rattle.std.specs.Prelude.{◌≡◌, ◌<◌, length, map, false, IfOk, OnOk, IfSome, MatchOption, option_map, option_and_then, slice_set};
+ghost use Rattle.serde_json.specs.Data.{object, no_members};
+ghost use Rattle.json_input.specs.Shape.{is_among};
+ghost use Rattle.json_tokens.specs.Standing.{value_at, items_at, members_at};
+ghost use Rattle.json_tokens.specs.Kind.{kind_seen, number_in};
+ghost use Rattle.json_tokens.specs.Reads.{Reads, ReadsOr};
+ghost use Rattle.box_answers.specs.config_record.Coord.{all_coords, name_of, place_of};
+ghost use Rattle.config_box.specs.declared.box_fault.BoxFault.TheVariants.{Syntax, OutOfMemory};
+ghost use Rattle.config_box.specs.Written.{numbers_in, texts_in};
+ghost use Rattle.config_box.specs.Kept.{numbers_kept, texts_kept, range_kept, kept_at, slot_at, kept_in, keep};
 
 use crate::box_fault::BoxFault;
+use crate::read::MOST_VALUES;
 use box_answers::Coord;
-use json_input::{has_only, list_of};
-use serde_json::Value;
-use std::alloc::Global;
+use json_tokens::{Kind, Malformed, Tokens};
+use std::alloc::{AllocError, Global};
 
 /// The names of the members of a range.
 const FROM: &str = "from";
 
 const TO: &str = "to";
 
-/// What is written of a coordinate.
+/// What is written of a coordinate. Of a list at most one item more than a box may have is kept, which tells that
+/// there are too many.
 #[derive(Drop)]
 pub(crate) enum Written<'a> {
     Nothing,
@@ -30,147 +33,205 @@ pub(crate) enum Written<'a> {
     Texts(Vec<&'a str>),
 }
 
-ghost use Rattle.config_box.specs.BoxSeen.{written_seen, pair_seen, text_seen};
-
-/// What is written of each coordinate, in their order, where the value has the shape of a box.
-#[tactic(auto, unfolding(crate::specs::Written::written_in, crate::specs::Unfolded::all_coords))]
-pub(crate) fn written_in(
-    alloc: Global,
-    value: &Value,
-) -> Result<Vec<(Coord, Written<'_>)>, BoxFault>
-    ensures value { GivesOr OutOfMemory (λ pairs. map pair_seen pairs.items) result (written_in (view value.now)) }
-    ensures coords { IfOk result (λ pairs. map (λ pair. pair.0) pairs.items ≡ all_coords) }
-{
-    if !has_only(value, &Coord::names()) {
-        return Err(BoxFault::Shape);
-    }
-    written_at_each(alloc, value, &Coord::ALL)
+/// A coordinate, with what the last member of its name says, where that has the right shape.
+#[derive(Drop)]
+pub(crate) struct Slot<'a> {
+    pub(crate) coord: Coord,
+    pub(crate) written: Option<Written<'a>>,
 }
 
-#[tactic(auto, using(json_input::proofs::EachSteps::each_steps))]
-fn written_at_each<'a>(
+ghost use Rattle.config_box.specs.BoxSeen.{read_seen, slot_seen, slots_seen};
+
+/// Reads what is written of each coordinate, or none where the value is no object of coordinates alone.
+pub(crate) fn slots_in<'a>(
     alloc: Global,
-    value: &'a Value,
-    coords: &[Coord],
-) -> Result<Vec<(Coord, Written<'a>)>, BoxFault>
-    ensures value { GivesOr OutOfMemory (λ pairs. map pair_seen pairs.items) result (each (written_at (view value.now)) coords.now) }
-    ensures coords { IfOk result (λ pairs. map (λ pair. pair.0) pairs.items ≡ coords.now) }
+    tokens: &mut Tokens<'a>,
+    depth: usize,
+) -> Result<Option<Vec<Slot<'a>>>, BoxFault>
+    ensures value { ReadsOr Syntax OutOfMemory slots_seen kept_in (value_at depth tokens.old) result tokens.new }
+    ensures coords { IfOk result (λ slots. IfSome slots (λ slots. map (λ slot. slot.coord) slots.items ≡ all_coords)) }
 {
-    let mut pairs = Vec::with_capacity(alloc, coords.len())?;
+    let mut slots = empty_slots(alloc, &Coord::ALL)?;
+    if !tokens.enter_object(depth)? {
+        return Ok(None);
+    }
+    let mut only = true;
+    'members: while let Some(name) = tokens.next_member()? {
+        match coord_named(name) {
+            Some(coord) => {
+                let written = value_at(alloc, tokens, depth - 1, coord)?;
+                put(&mut slots, Slot { coord, written });
+            }
+            None => {
+                tokens.pass(depth - 1)?;
+                only = false;
+            }
+        }
+    }
+    if !only {
+        return Ok(None);
+    }
+    Ok(Some(slots))
+}
+
+fn empty_slots<'a>(alloc: Global, coords: &[Coord]) -> Result<Vec<Slot<'a>>, AllocError>
+    ensures seen { IfOk result (λ slots. map slot_seen slots.items ≡ map (slot_at (object no_members)) coords.now) }
+    ensures coords { IfOk result (λ slots. map (λ slot. slot.coord) slots.items ≡ coords.now) }
+{
+    let mut slots = Vec::with_capacity(alloc, coords.len())?;
     for coord in coords {
-        let pair = written_at(alloc, value, *coord)?;
-        pairs.push(pair)?;
+        slots.push(Slot {
+            coord: *coord,
+            written: Some(Written::Nothing),
+        })?;
     }
-    Ok(pairs)
+    Ok(slots)
 }
 
-#[tactic(auto, unfolding(crate::specs::Written::written_at))]
-fn written_at(alloc: Global, value: &Value, at: Coord) -> Result<(Coord, Written<'_>), BoxFault>
-    ensures value { GivesOr OutOfMemory pair_seen result (written_at (view value.now) at) }
-    ensures coord { IfOk result (λ pair. pair.0 ≡ at) }
+// The slots of other coordinates stay.
+fn put<'a>(slots: &mut Vec<Slot<'a>>, slot: Slot<'a>)
+    requires { length slots.old.items ≡ 25 }
+    ensures { slots.new.items ≡ slice_set slots.old.items (place_of slot.entry.coord) slot.entry }
 {
-    let written = member_at(alloc, value, at)?;
-    Ok((at, written))
+    let place = slot.coord.place();
+    slots[place] = slot;
 }
 
-fn member_at(alloc: Global, value: &Value, at: Coord) -> Result<Written<'_>, BoxFault>
-    ensures { GivesOr OutOfMemory written_seen result (member_at at (get (name_of at) (view value.now))) }
+#[tactic(auto, unfolding(crate::specs::Unfolded::all_coords))]
+fn coord_named(name: &str) -> Option<Coord>
+    ensures { MatchOption result (is_among (map name_of all_coords) name.now ≡ false) (λ c. name_of c ≡ name.now) }
 {
-    match value.get(at.name()) {
-        Some(value) => value_at(alloc, at, value),
-        None => Ok(Written::Nothing),
+    named_in(&Coord::ALL, name)
+}
+
+fn named_in(coords: &[Coord], name: &str) -> Option<Coord>
+    ensures { MatchOption result (is_among (map name_of coords.now) name.now ≡ false) (λ c. name_of c ≡ name.now) }
+{
+    for coord in coords {
+        if coord.name() == name {
+            return Some(*coord);
+        }
     }
+    None
 }
 
-#[tactic(auto, unfolding(crate::specs::Written::value_at))]
-fn value_at(alloc: Global, at: Coord, value: &Value) -> Result<Written<'_>, BoxFault>
-    ensures { GivesOr OutOfMemory written_seen result (value_at at (view value.now)) }
+fn value_at<'a>(
+    alloc: Global,
+    tokens: &mut Tokens<'a>,
+    depth: usize,
+    at: Coord,
+) -> Result<Option<Written<'a>>, BoxFault>
+    ensures value { ReadsOr Syntax OutOfMemory read_seen (kept_at at) (value_at depth tokens.old) result tokens.new }
+    ensures shorter { OnOk result (length tokens.new < length tokens.old) }
 {
     match at {
-        Coord::Locale => texts_in(alloc, value),
-        _ => numbers_in(alloc, value),
+        Coord::Locale => texts_in(alloc, tokens, depth),
+        _ => numbers_in(alloc, tokens, depth),
     }
 }
 
 // A list of numbers, or a range.
-#[tactic(auto, unfolding(crate::specs::Written::numbers_in))]
-fn numbers_in(alloc: Global, value: &Value) -> Result<Written<'_>, BoxFault>
-    ensures { GivesOr OutOfMemory written_seen result (numbers_in (view value.now)) }
+fn numbers_in<'a>(
+    alloc: Global,
+    tokens: &mut Tokens<'a>,
+    depth: usize,
+) -> Result<Option<Written<'a>>, BoxFault>
+    ensures value { ReadsOr Syntax OutOfMemory read_seen (λ value. keep (numbers_in value)) (value_at depth tokens.old) result tokens.new }
+    ensures shorter { OnOk result (length tokens.new < length tokens.old) }
 {
-    if let Some(items) = list_of(value) {
-        let numbers = number_items(alloc, items)?;
-        return Ok(Written::Numbers(numbers));
+    match tokens.begin(depth)? {
+        Kind::List => number_items(alloc, tokens, depth - 1),
+        Kind::Object => Ok(range_members(tokens, depth - 1)?),
+        Kind::Number(_) | Kind::Text(_) | Kind::Other => Ok(None),
     }
-    let (from, to) = range_in(value)?;
-    Ok(Written::Range(from, to))
 }
 
-#[tactic(auto, using(json_input::proofs::EachSteps::each_item_steps))]
-fn number_items(alloc: Global, items: &[Value]) -> Result<Vec<u64>, BoxFault>
-    ensures { GivesOr OutOfMemory (λ numbers. numbers.items) result (each number_item (map view items.now)) }
+// The items of a list that was entered, where all are numbers.
+fn number_items<'a>(
+    alloc: Global,
+    tokens: &mut Tokens<'a>,
+    depth: usize,
+) -> Result<Option<Written<'a>>, BoxFault>
+    ensures value { ReadsOr Syntax OutOfMemory read_seen numbers_kept (items_at depth tokens.old) result tokens.new }
+    ensures shorter { OnOk result (length tokens.new < length tokens.old) }
 {
-    let mut numbers = Vec::with_capacity(alloc, items.len())?;
-    for item in items {
-        let number = number_item(item)?;
-        numbers.push(number)?;
+    let mut numbers = Vec::new(alloc);
+    'items: while tokens.next_item() {
+        let kind = tokens.kind(depth)?;
+        let Kind::Number(number) = kind else {
+            tokens.pass_items(depth)?;
+            return Ok(None);
+        };
+        if numbers.len() <= MOST_VALUES {
+            numbers.push(number)?;
+        }
     }
-    Ok(numbers)
+    Ok(Some(Written::Numbers(numbers)))
 }
 
-fn number_item(item: &Value) -> Result<u64, BoxFault>
-    ensures { result ≡ number_item (view item.now) }
+fn texts_in<'a>(
+    alloc: Global,
+    tokens: &mut Tokens<'a>,
+    depth: usize,
+) -> Result<Option<Written<'a>>, BoxFault>
+    ensures value { ReadsOr Syntax OutOfMemory read_seen (λ value. keep (texts_in value)) (value_at depth tokens.old) result tokens.new }
+    ensures shorter { OnOk result (length tokens.new < length tokens.old) }
 {
-    item.as_u64().ok_or(BoxFault::Shape)
+    if !tokens.enter_list(depth)? {
+        return Ok(None);
+    }
+    text_items(alloc, tokens, depth - 1)
 }
 
-#[tactic(auto, unfolding(crate::specs::Written::texts_in))]
-fn texts_in(alloc: Global, value: &Value) -> Result<Written<'_>, BoxFault>
-    ensures { GivesOr OutOfMemory written_seen result (texts_in (view value.now)) }
+// The items of a list that was entered, where all are texts.
+fn text_items<'a>(
+    alloc: Global,
+    tokens: &mut Tokens<'a>,
+    depth: usize,
+) -> Result<Option<Written<'a>>, BoxFault>
+    ensures value { ReadsOr Syntax OutOfMemory read_seen texts_kept (items_at depth tokens.old) result tokens.new }
+    ensures shorter { OnOk result (length tokens.new < length tokens.old) }
 {
-    let Some(items) = list_of(value) else {
-        return Err(BoxFault::Shape);
+    let mut texts = Vec::new(alloc);
+    'items: while tokens.next_item() {
+        let kind = tokens.kind(depth)?;
+        let Kind::Text(text) = kind else {
+            tokens.pass_items(depth)?;
+            return Ok(None);
+        };
+        if texts.len() <= MOST_VALUES {
+            texts.push(text)?;
+        }
+    }
+    Ok(Some(Written::Texts(texts)))
+}
+
+// The members of an object that was entered, where they are the first number and the last.
+fn range_members<'a>(
+    tokens: &mut Tokens<'a>,
+    depth: usize,
+) -> Result<Option<Written<'a>>, Malformed>
+    ensures value { Reads read_seen range_kept (members_at depth no_members tokens.old) result tokens.new }
+    ensures shorter { OnOk result (length tokens.new < length tokens.old) }
+{
+    let mut ends = [None; 2];
+    if !tokens.fields_left(depth, &[FROM, TO], &mut ends)? {
+        return Ok(None);
+    }
+    let Some(from) = number_of(ends[0]) else {
+        return Ok(None);
     };
-    let texts = text_items(alloc, items)?;
-    Ok(Written::Texts(texts))
+    let Some(to) = number_of(ends[1]) else {
+        return Ok(None);
+    };
+    Ok(Some(Written::Range(from, to)))
 }
 
-#[tactic(auto, using(json_input::proofs::EachSteps::each_item_steps))]
-fn text_items(alloc: Global, items: &[Value]) -> Result<Vec<&str>, BoxFault>
-    ensures { GivesOr OutOfMemory (λ texts. map (λ text. text.now) texts.items) result (each text_item (map view items.now)) }
+fn number_of(kind: Option<Kind<'_>>) -> Option<u64>
+    ensures { result ≡ option_and_then number_in (option_map kind_seen kind.entry) }
 {
-    let mut texts = Vec::with_capacity(alloc, items.len())?;
-    for item in items {
-        let text = text_item(item)?;
-        texts.push(text)?;
-    }
-    Ok(texts)
-}
-
-fn text_item(item: &Value) -> Result<&str, BoxFault>
-    ensures { text_seen result ≡ text_item (view item.now) }
-{
-    item.as_str().ok_or(BoxFault::Shape)
-}
-
-// An object with the first number and the last.
-#[tactic(auto, unfolding(crate::specs::Written::range_in))]
-fn range_in(value: &Value) -> Result<(u64, u64), BoxFault>
-    ensures { result ≡ range_in (view value.now) }
-{
-    if !has_only(value, &[FROM, TO]) {
-        return Err(BoxFault::Shape);
-    }
-    let from = number_member(value, FROM)?;
-    let to = number_member(value, TO)?;
-    Ok((from, to))
-}
-
-#[tactic(auto, unfolding(crate::specs::Written::number_member))]
-fn number_member(value: &Value, name: &str) -> Result<u64, BoxFault>
-    ensures { result ≡ number_member name.now (view value.now) }
-{
-    match value.get(name) {
-        Some(number) => number.as_u64().ok_or(BoxFault::Shape),
-        None => Err(BoxFault::Shape),
+    match kind {
+        Some(Kind::Number(number)) => Some(number),
+        _ => None,
     }
 }

@@ -1,21 +1,90 @@
-use Rattle.std.proofs.Common.{ℕ, ◌+◌, List, map, sym, ap, subst, ◌∙◌}
+use Rattle.std.proofs.Common.{◌≡◌, ◌≤◌, List, length, Some, None, Ok, Err, refl, sym, ap, subst, ◌∙◌, arith}
 use Rattle.std.proofs.lemmas.Result.{err_from_is_err_and}
-use Rattle.serde_json.specs.View.{view}
-use Rattle.json_input.proofs.EachSteps.{EachAllBut, EachAllBut-next_item, EachAllBut-stops_item, EachAllBut-end_item}
-use Rattle.config_box.specs.Written.{number_item}
+use Rattle.json.specs.Json.{after_end_array}
+use Rattle.json.specs.Token.{Token}
+use Rattle.json_tokens.specs.Standing.{value_at, items_at}
+use Rattle.json_tokens.proofs.EachWalked.{EachWalked-malformed, EachWalked-not_passed, EachWalked-stops, EachWalked-end}
+use Rattle.config_box.specs.declared.box_fault.BoxFault.TheVariants.{Shape}
+use Rattle.config_box.specs.Written.{NumbersOf, number_item}
+use Rattle.config_box.proofs.TokenSteps.{KeptWalked, KeptWalked-none, KeptWalked-next, KeptWalked-full, number-is, number-not, numbers-read}
 use Rattle.config_box.proofs.written.number_items.Goals as goal
 
-pub returns-in_err-number : goal.returns-in_err-number
-returns-in_err-number c =
-    let p = err_from_is_err_and c.from_residual-in_err-number.result c.from_residual-in_err-number.ensures.1 in
-    let is = ap (λ v. number_item (view v)) (sym c.item-item.is) ∙ sym c.number_item.ensures ∙ c.in_err-number.was in
-    rw (p.1, p.2) (λ other. EachAllBut-stops_item number_item view _ _ c.args.items.now _ _ c.loop-item.invariant c.loop-item-test.true is)
+pub items-init : goal.items-init
+items-init c = record {
+  read = subst (λ kept. KeptWalked number_item c.args.depth c.args.tokens.now kept c.args.tokens.now) (sym c.new-numbers.ensures.items) (KeptWalked-none number_item c.args.depth c.args.tokens.now);
+  shorter = omega arith;
+}
 
-pub loop-item-preserved : goal.loop-item-preserved
-loop-item-preserved c =
-    let is = ap (λ v. number_item (view v)) (sym c.item-item.is) ∙ sym c.number_item.ensures ∙ c.in_ok-number.was in
-    subst (λ (numbers : List ℕ). EachAllBut number_item numbers (c.loop-item.item-index + 1) (map view c.args.items.now)) (sym c.in_ok-push.ensures.items)
-    (EachAllBut-next_item number_item view c.loop-item.numbers.items c.loop-item.item-index c.args.items.now _ c.in_ok-number.number c.loop-item.invariant c.loop-item-test.true is)
+pub returns-in_err-kind-clause-value : goal.returns-in_err-kind-clause-value
+returns-in_err-kind-clause-value c =
+    let l = c.items in
+    let going : (after_end_array l.tokens ≡ None) × (c.next_item.new.self ≡ l.tokens) = grind arith in
+    let p = err_from_is_err_and c.from_residual.result c.from_residual.ensures.1 in
+    rw (p.1, p.2) (λ other.
+    (refl, EachWalked-malformed number_item c.args.depth c.args.tokens.now l.tokens l.invariant.read.so_far l.invariant.read.walked going.0 (rw (← going.1) c.in_err-kind.ensures.value)))
 
-pub returns : goal.returns
-returns c = EachAllBut-end_item number_item view _ _ c.args.items.now c.loop-item.invariant c.loop-item-test.false
+pub returns-in_err-pass_items : goal.returns-in_err-pass_items
+returns-in_err-pass_items c =
+    let depth = c.args.depth in
+    let l = c.items in
+    let going : (after_end_array l.tokens ≡ None) × (c.next_item.new.self ≡ l.tokens) = grind arith in
+    let p = err_from_is_err_and c.from_residual-in_err-pass_items.result c.from_residual-in_err-pass_items.ensures.1 in
+    let wrong = number-not (value_at depth l.tokens) c.in_ok-kind.kind c.kind.new.self (rw (← going.1) c.in_ok-kind.ensures.value) c.in_default.not-Number in
+    record {
+      value = rw (p.1, p.2) (λ other. (
+        refl,
+        EachWalked-not_passed number_item depth c.args.tokens.now l.tokens c.kind.new.self l.invariant.read.so_far (Err Shape) l.invariant.read.walked going.0 wrong c.in_err-pass_items.ensures.value,
+      ));
+      shorter = rw p.1 tt;
+    }
+
+pub returns-in_default : goal.returns-in_default
+returns-in_default c =
+    let depth = c.args.depth in
+    let start = c.args.tokens.now in
+    let l = c.items in
+    let r = c.pass_items.new.self in
+    let going : (after_end_array l.tokens ≡ None) × (c.next_item.new.self ≡ l.tokens) = grind arith in
+    let wrong = number-not (value_at depth l.tokens) c.in_ok-kind.kind c.kind.new.self (rw (← going.1) c.in_ok-kind.ensures.value) c.in_default.not-Number in
+    record {
+      value = numbers-read (items_at depth start) (Err Shape) r
+          (EachWalked-stops number_item depth start l.tokens c.kind.new.self r l.invariant.read.so_far Shape l.invariant.read.walked going.0 wrong c.in_ok-pass_items.ensures.value);
+      shorter = omega (arith, l.invariant.shorter, c.in_ok-kind.ensures.shorter, c.in_ok-pass_items.ensures.shorter, ap (λ (ts : List Token). length ts) going.1);
+    }
+
+pub items-preserved-in-Continue-branch-3 : goal.items-preserved-in-Continue-branch-3
+items-preserved-in-Continue-branch-3 c =
+    let depth = c.args.depth in
+    let start = c.args.tokens.now in
+    let l = c.items in
+    let r = c.kind.new.self in
+    let going : (after_end_array l.tokens ≡ None) × (c.next_item.new.self ≡ l.tokens) = grind arith in
+    let read = number-is (value_at depth l.tokens) c.in_ok-kind.kind r (rw (← going.1) c.in_ok-kind.ensures.value) c.in-Number.number c.in-Number.is in
+    let few : length l.numbers.items ≤ 512 = omega (arith, c.len.ensures, c.if-len-le-MOST_VALUES.true) in
+    record {
+      read = subst (λ kept. KeptWalked number_item depth start kept r) (sym c.in_ok-push.ensures.items)
+          (KeptWalked-next number_item depth start l.tokens r l.numbers.items c.in-Number.number l.invariant.read going.0 read few);
+      shorter = omega (arith, l.invariant.shorter, c.in_ok-kind.ensures.shorter, ap (λ (ts : List Token). length ts) going.1);
+    }
+
+pub items-preserved : goal.items-preserved
+items-preserved c =
+    let depth = c.args.depth in
+    let start = c.args.tokens.now in
+    let l = c.items in
+    let r = c.kind.new.self in
+    let going : (after_end_array l.tokens ≡ None) × (c.next_item.new.self ≡ l.tokens) = grind arith in
+    let read = number-is (value_at depth l.tokens) c.in_ok-kind.kind r (rw (← going.1) c.in_ok-kind.ensures.value) c.in-Number.number c.in-Number.is in
+    record {
+      read = KeptWalked-full number_item depth start l.tokens r l.numbers.items c.in-Number.number l.invariant.read going.0 read (omega (arith, c.len.ensures, c.if-len-le-MOST_VALUES.false));
+      shorter = omega (arith, l.invariant.shorter, c.in_ok-kind.ensures.shorter, ap (λ (ts : List Token). length ts) going.1);
+    }
+
+pub returns-clause-value : goal.returns-clause-value
+returns-clause-value c =
+    let l = c.items in
+    let r = c.next_item.new.self in
+    let so = l.invariant.read in
+    let over : after_end_array l.tokens ≡ Some r = grind arith in
+    numbers-read (items_at c.args.depth c.args.tokens.now) (Ok so.so_far) r (EachWalked-end number_item c.args.depth c.args.tokens.now l.tokens r so.so_far so.walked over)
+    ∙ ap (λ kept. Some (Ok (NumbersOf kept), r)) (sym so.first)
