@@ -7,8 +7,6 @@ pub mod HeadSteps
 pub mod LinkSteps
 pub mod StandSteps
 pub mod PlaceSteps
-pub mod PairSteps
-pub mod MapSteps
 pub mod CheckSteps
 pub mod FewRows
 pub mod SetAsideSteps

@@ -43,7 +43,7 @@ targets_of pairs = map (λ pair. pair.0.0) pairs
 abbrev pub id_in : Data → Option ResId
 id_in value = option_and_then id_of (text_of value)
 
-abbrev both : Option ResId → Option ResId → Option IdPair
+abbrev pub both : Option ResId → Option ResId → Option IdPair
 both (Some target) (Some own) = Some (target, own)
 both (Some target) None = None
 both None own = None
@@ -62,6 +62,10 @@ pair_item value = ok_or (pair_in value) Shape
 -- each item of the list is a pair
 unfoldable pub pairs_in : Data → Result (List IdPair) MapFault
 pairs_in value = ok_or (list_of value) Shape >>= each pair_item
+
+-- of a text, or its first fault: that of the text, or of the shape
+abbrev pub pairs_of_text : List ℕ → Result (List IdPair) MapFault
+pairs_of_text json = ok_or (value_of json) Syntax >>= pairs_in
 
 -- ---- the pairs, one after the other
 
@@ -83,7 +87,6 @@ checked_pairs (first ∷ pairs) = joined_each (checked_pair (package_of first.0)
 
 abbrev pub map_in : List ℕ → Result MapOf MapFault
 map_in json = do
-  value ← ok_or (value_of json) Syntax
-  pairs ← pairs_in value
+  pairs ← pairs_of_text json
   checked ← checked_pairs pairs
   Ok (pairs_of checked)

@@ -9,6 +9,7 @@ pub mod Heads
 pub mod Links
 pub mod Places
 pub mod IdMap
+pub mod PairsRead
 pub mod Layer
 pub mod Candidates
 pub mod BaseRow

@@ -11,9 +11,8 @@ ghost use Rattle.overlay_map.specs.declared.map_fault.MapFault.TheVariants.{OutO
 use crate::checked_pairs::{keys_of_targets, put_pairs};
 use crate::content_keys::ContentKeys;
 use crate::map_fault::MapFault;
-use crate::pairs::pairs_in;
+use crate::pairs::pairs_of_text;
 use indexmap::IndexMap;
-use json_input::read_value;
 use std::alloc::{AllocError, Global};
 use std::marker::Model;
 use type_chunks::ResId;
@@ -41,8 +40,7 @@ impl IdMap {
     pub fn read(alloc: Global, json: &[u8]) -> Result<IdMap, MapFault>
         ensures { GivesOr OutOfMemory (λ map. map) result (map_in json.now) }
     {
-        let value = read_value(alloc, json)?;
-        let list = pairs_in(alloc, &value)?;
+        let list = pairs_of_text(alloc, json)?;
         let keys = keys_of_targets(&list);
         let mut pairs = IndexMap::with_capacity_and_hasher(alloc, list.len(), keys)?;
         put_pairs(&list, &mut pairs)?;

@@ -5,7 +5,8 @@ ghost use Rattle.json_input.specs.Fault.{fault_of_text};
 ghost use Rattle.overlay_map.specs.declared.map_fault.MapFault.TheVariants.{Syntax, OutOfMemory};
 
 use json_input::JsonFault;
-use std::alloc::AllocError;
+use json_tokens::Malformed;
+use std::alloc::{AllocError, AllocFailed};
 use std::fmt::{self, Debug, Display, Formatter};
 use thiserror::Error;
 use type_chunks::ResId;
@@ -48,10 +49,26 @@ impl From<JsonFault> for MapFault {
     }
 }
 
+impl From<Malformed> for MapFault {
+    ghost from_gives = { λ _ e. e ≡ Syntax };
+
+    fn from(_malformed: Malformed) -> MapFault {
+        MapFault::Syntax
+    }
+}
+
 impl From<AllocError> for MapFault {
     ghost from_gives = { λ _ e. e ≡ OutOfMemory };
 
     fn from(_error: AllocError) -> MapFault {
+        MapFault::OutOfMemory
+    }
+}
+
+impl<T: Drop> From<AllocFailed<T>> for MapFault {
+    ghost from_gives = { λ _ e. e ≡ OutOfMemory };
+
+    fn from(_error: AllocFailed<T>) -> MapFault {
         MapFault::OutOfMemory
     }
 }
