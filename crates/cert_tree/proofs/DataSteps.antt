@@ -1,5 +1,5 @@
 -- The data of goals and tests, from those of their parts.
-use Rattle.std.proofs.Common.{◌≡◌, List, [], ◌∷◌, Vec, Global, map, refl, sym, ap, ◌∙◌}
+use Rattle.std.proofs.Common.{◌≡◌, List, [], ◌∷◌, Vec, Global, map, refl, ap, ◌∙◌}
 use Rattle.std.specs.Prelude.{codes}
 use Rattle.serde_json.specs.Data.{Data, Items, array, item, object, put, no_members}
 use Rattle.serde_json.specs.View.{view, items_view, items_of}

@@ -1,7 +1,11 @@
 pub mod ReadOnSteps
 pub mod ReadSteps
-pub mod GoalSteps
+pub mod NodeKindsLemmas
+pub mod NodesWalked
 pub mod DataSteps
+pub mod KeptSteps
+pub mod StylesSteps
+pub mod GoalsSteps
 pub mod TextLemmas
 pub mod LineLemmas
 pub mod ReadsBackLemmas

@@ -33,7 +33,7 @@ use Rattle.config_box.specs.Tests.{ChoiceOf, NumbersOf, LocalesOf, AtMostOf, Amo
 use Rattle.cert_tree.specs.Certificate.{NodeOf, TestAt, ValueAt, BagAt, GoalOf, ChoiceFits, NodeFits, GoalFits, CertFits, node_count, most_nodes, most_listed, last_layer}
 use Rattle.res_value.specs.Goal.{GoalSeen, IdGoal, AttrGoal, most_styles}
 use Rattle.cert_tree.specs.ReadOn.{read_on}
-use Rattle.cert_tree.specs.CertJson.{last_word, last_kind, number_within, number_at, id_at, list_at, coord_named, coord_at, number_item, locale_item, choice_in, at_most_in, among_in, value_in, bag_in, node_in, node_after, id_goal_in, id_item, attr_goal_in, asked_in, goal_in, goal_after, is_version, goal_list, goals_in_value, cert_in_by}
+use Rattle.cert_tree.specs.CertJson.{last_word, last_kind, number_within, number_at, id_at, list_at, coord_named, coord_at, number_item, locale_item, choice_in, at_most_in, among_in, value_in, bag_in, node_in, node_after, id_goal_in, id_item, styles_in, attr_goal_in, asked_in, nodes_in, goal_in, goal_after, is_version, goals_in, goals_in_value, cert_in_by}
 use Rattle.cert_tree.specs.WrittenJson.{number_data, id_data, locale_data, list_data, choice_items, node_data, asked_data, goal_data, is_id_goal, version_of, cert_data}
 use Rattle.cert_tree.specs.ReadsBack.{NumberReadsBack, IdReadsBack, ChoiceReadsBack, NodeReadsBack, CanBeRead, GoalReadsBack}
 use Rattle.cert_tree.proofs.ReadOnSteps.{read_on-ok, read_on-none}
@@ -158,7 +158,7 @@ ids-read : (ids : List ResId) → All IdReadsBack ids → (shape : CertFault) �
 ids-read ids back shape = each-back (id_item shape) id_data ids (λ k d on. id_item-back (get_or ids k d) (back k d on) shape)
 
 pub id_goal-back : (id : ResId) (nodes : List NodeOf) → IdReadsBack id → All NodeReadsBack nodes → GoalReadsBack (record { goal = IdGoal id; nodes = nodes })
-unfolding goal_in asked_in id_goal_in id_at list_at has_only are_among is_among
+unfolding goal_in nodes_in asked_in id_goal_in id_at has_only are_among is_among
 id_goal-back id nodes same back rule styles fits attributes can place nodes_before few =
     let count : length (map node_data nodes) ≡ length nodes = length-map nodes node_data in
     rw (same, list_items-items_of (map node_data nodes), le-ltb most_nodes (nodes_before + length (map node_data nodes)) (omega arith))
@@ -166,7 +166,7 @@ id_goal-back id nodes same back rule styles fits attributes can place nodes_befo
 
 pub attr_goal-back : (attr : ResId) (styles : List ResId) (nodes : List NodeOf) → IdReadsBack attr → All IdReadsBack styles → All NodeReadsBack nodes
     → GoalReadsBack (record { goal = AttrGoal attr styles; nodes = nodes })
-unfolding goal_in asked_in attr_goal_in id_at list_at has_only are_among is_among
+unfolding goal_in nodes_in asked_in attr_goal_in styles_in id_at has_only are_among is_among
 attr_goal-back attr styles nodes same ids back rule few_styles fits attributes can place nodes_before few =
     let count : length (map node_data nodes) ≡ length nodes = length-map nodes node_data in
     let style_count : length (map id_data styles) ≡ length styles = length-map styles id_data in
@@ -214,7 +214,7 @@ is_written_version goals = by (list_all is_id_goal goals) refl
     by false e = rw e refl
 
 pub cert-back : (rule : LocaleRule) (goals : List GoalOf) → All GoalReadsBack goals → CertFits rule goals → goals_in_value rule (cert_data goals) ≡ Ok goals
-unfolding goals_in_value goal_list is_version list_at has_only are_among is_among
+unfolding goals_in_value goals_in is_version has_only are_among is_among
 cert-back rule goals back fits =
     rw (is_written_version goals, list_items-items_of (map goal_data goals))
     (goals-read rule (version_of goals == 2) [] goals back fits.styles fits.nodes (can_be_read goals) (omega (arith, fits.few)))

@@ -116,12 +116,17 @@ id_goal_in shape value = id_at shape (codes "id") value >>= λ id. Ok (IdGoal id
 unfoldable pub id_item : CertFault → Data → Result ResId CertFault
 id_item shape value = ok_or (option_and_then id_of (text_of value)) shape
 
+-- the ids of styles
+unfoldable pub styles_in : CertFault → Data → Result (List ResId) CertFault
+styles_in shape value = do
+  items ← ok_or (list_of value) shape
+  _ ← refuse (nat_lt most_styles (length items)) shape
+  each (id_item shape) items
+
 unfoldable pub attr_goal_in : CertFault → Data → Result GoalSeen CertFault
 attr_goal_in shape value = do
   attr ← id_at shape (codes "attr") value
-  items ← list_at shape (codes "styles") value
-  _ ← refuse (nat_lt most_styles (length items)) shape
-  styles ← each (id_item shape) items
+  styles ← ok_or (get (codes "styles") value) shape >>= styles_in shape
   Ok (AttrGoal attr styles)
 
 -- an object with the members of a goal of an id, or, where there can be such, of a goal of an attribute
@@ -131,14 +136,19 @@ asked_in attributes shape value =
     else if attributes && has_only (codes "attr" ∷ codes "styles" ∷ codes "nodes" ∷ []) value then attr_goal_in shape value
     else Err shape
 
--- the goal of this number, where so many nodes stand in those before it: first its shape, then how
--- many nodes there are, then the nodes
+-- the list of the nodes of the goal of this number, where so many nodes stand in the goals before it: first how many nodes
+-- there are, then the nodes
+unfoldable pub nodes_in : LocaleRule → ℕ → ℕ → Data → Result (List NodeOf) CertFault
+nodes_in rule goal nodes_before value = do
+  items ← ok_or (list_of value) (Shape goal 0)
+  _ ← refuse (nat_lt most_nodes (nodes_before + length items)) TooManyNodes
+  read_on (node_after rule goal) [] items
+
+-- the goal of this number, where so many nodes stand in those before it: first its shape, then its nodes
 unfoldable pub goal_in : LocaleRule → Bool → ℕ → ℕ → Data → Result GoalOf CertFault
 goal_in rule attributes goal nodes_before value = do
   asked ← asked_in attributes (Shape goal 0) value
-  items ← list_at (Shape goal 0) (codes "nodes") value
-  _ ← refuse (nat_lt most_nodes (nodes_before + length items)) TooManyNodes
-  nodes ← read_on (node_after rule goal) [] items
+  nodes ← ok_or (get (codes "nodes") value) (Shape goal 0) >>= nodes_in rule goal nodes_before
   Ok (record { goal = asked; nodes = nodes })
 
 abbrev pub goal_after : LocaleRule → Bool → List GoalOf → Data → Result GoalOf CertFault
@@ -150,17 +160,17 @@ goal_after rule attributes before value = goal_in rule attributes (length before
 unfoldable pub is_version : ℕ → Data → Bool
 is_version version value = unwrap_or (option_map (λ n. n == version) (option_and_then number_of (get (codes "version") value))) false
 
--- an object of version 1 or 2, with a list of goals and no other member
-unfoldable pub goal_list : Data → Result (List Data) CertFault
-goal_list value = do
+-- the goals of a list, where goals of attributes can be there or can't
+unfoldable pub goals_in : LocaleRule → Bool → Data → Result (List GoalOf) CertFault
+goals_in rule attributes value = ok_or (list_of value) (Shape 0 0) >>= read_on (goal_after rule attributes) []
+
+-- an object of version 1 or 2, with a list of goals and no other member; goals of attributes can be there from version 2 on
+unfoldable pub goals_in_value : LocaleRule → Data → Result (List GoalOf) CertFault
+goals_in_value rule value = do
   _ ← refuse (not (is_some (as_object value))) (Shape 0 0)
   _ ← refuse (not (is_version 1 value || is_version 2 value)) Version
   _ ← refuse (not (has_only (codes "version" ∷ codes "goals" ∷ []) value)) (Shape 0 0)
-  list_at (Shape 0 0) (codes "goals") value
-
--- goals of attributes can be there from version 2 on
-unfoldable pub goals_in_value : LocaleRule → Data → Result (List GoalOf) CertFault
-goals_in_value rule value = goal_list value >>= read_on (goal_after rule (is_version 2 value)) []
+  ok_or (get (codes "goals") value) (Shape 0 0) >>= goals_in rule (is_version 2 value)
 
 -- the certificate that bytes mean, where locales are read by this rule
 abbrev pub cert_in_by : LocaleRule → List ℕ → Result (List GoalOf) CertFault

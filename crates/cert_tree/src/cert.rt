@@ -7,10 +7,10 @@ ghost use Rattle.cert_tree.specs.declared.cert_fault.CertFault.TheVariants.{OutO
 
 use crate::cert_fault::CertFault;
 use crate::node::Node;
-use crate::read::goals_in_value;
+use crate::read::read_cert_members;
 use crate::write::cert_value;
 use config_box::LocaleRule;
-use json_input::read_value;
+use json_tokens::{MOST_DEPTH, Scratch, Tokens};
 use res_value::Goal;
 use std::alloc::{AllocError, Global};
 
@@ -47,8 +47,11 @@ impl Cert {
     pub fn read_by(alloc: Global, json: &[u8], rule: LocaleRule) -> Result<Cert, CertFault>
         ensures { GivesOr OutOfMemory goals_of result (cert_in_by rule json.now) }
     {
-        let value = read_value(alloc, json)?;
-        let goals = goals_in_value(alloc, &value, rule)?;
+        let mut scratch = Scratch::new(alloc);
+        let mut tokens = Tokens::of(json, &mut scratch)?;
+        let members = read_cert_members(&mut tokens, alloc, MOST_DEPTH, rule)?;
+        tokens.end()?;
+        let goals = members.into_goals()?;
         Ok(Cert { goals })
     }
 

@@ -5,6 +5,7 @@ ghost use Rattle.json_input.specs.Fault.{fault_of_text};
 ghost use Rattle.cert_tree.specs.declared.cert_fault.CertFault.TheVariants.{Syntax, OutOfMemory};
 
 use json_input::JsonFault;
+use json_tokens::Malformed;
 use std::alloc::{AllocError, AllocFailed};
 use std::fmt::{self, Debug, Display, Formatter};
 use thiserror::Error;
@@ -46,6 +47,14 @@ impl From<JsonFault> for CertFault {
             JsonFault::Syntax => CertFault::Syntax,
             JsonFault::OutOfMemory => CertFault::OutOfMemory,
         }
+    }
+}
+
+impl From<Malformed> for CertFault {
+    ghost from_gives = { λ _ e. e ≡ Syntax };
+
+    fn from(_malformed: Malformed) -> CertFault {
+        CertFault::Syntax
     }
 }
 

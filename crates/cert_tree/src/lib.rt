@@ -20,12 +20,15 @@
 
 mod cert;
 mod cert_fault;
-mod members;
+mod goal_list;
+mod goal_members;
+mod member_kinds;
 mod node;
+mod node_list;
 mod object;
 mod progress;
 mod read;
-mod read_nodes;
+mod read_node;
 mod texts;
 mod write;
 
