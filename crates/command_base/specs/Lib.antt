@@ -1,6 +1,7 @@
 pub mod Input
 pub mod LayerList
 pub mod LayerListSeen
+pub mod LayerKinds
 pub mod MapErr
 pub mod StackBytes
 pub mod StackBytesSeen

@@ -1,20 +1,22 @@
 //! Lists of layers: which files the layers of a stack are.
 
-ghost use Rattle.std.specs.Prelude.{◌≡◌, map, nat_lt, IfOk};
+ghost use Rattle.std.specs.Prelude.{◌≡◌, ◌<◌, length, nat_lt, IfOk, OnOk};
+ghost use Rattle.std.specs.Option.{option_map};
 ghost use Rattle.command_base.specs.contract_words.Faults.{refuse};
 ghost use Rattle.command_base.specs.contract_words.Exact.{GivesOr};
-ghost use Rattle.serde_json.specs.View.{view};
-ghost use Rattle.command_base.specs.json_input.Each.{each};
 ghost use Rattle.command_base.specs.overlay_map.Layer.{most_layers};
-ghost use Rattle.command_base.specs.declared.layers_fault.LayersFault.TheVariants.{TooManyLayers, OutOfMemory};
-ghost use Rattle.command_base.specs.LayerList.{table_path, map_path, layer_paths_in, layers_in_value};
-ghost use Rattle.command_base.specs.LayerListSeen.{path_seen, optional_path_seen, lent_paths_of, lent_paths_seen, paths_of, all_paths_of, listed};
+ghost use Rattle.json_tokens.specs.Kind.{kind_seen};
+ghost use Rattle.json_tokens.specs.Reads.{ReadsOr};
+ghost use Rattle.json_tokens.specs.Standing.{value_at, items_at};
+ghost use Rattle.command_base.specs.declared.layers_fault.LayersFault.TheVariants.{Syntax, TooManyLayers, OutOfMemory};
+ghost use Rattle.command_base.specs.LayerList.{layer_paths_in};
+ghost use Rattle.command_base.specs.LayerListSeen.{lent_paths_of, paths_of, listed};
+ghost use Rattle.command_base.specs.LayerKinds.{layer_of_kinds, layer_seen, kept_layers, kept_list, kept_seen};
 
 use crate::layer_parts::LayerParts;
 use crate::layers_fault::LayersFault;
 use answer_text::MOST_LAYERS;
-use json_input::{has_only, list_of, read_value};
-use serde_json::Value;
+use json_tokens::{Kind, MOST_DEPTH, Scratch, Tokens};
 use std::alloc::{AllocError, Global};
 
 /// The name of the member that has the path of a layer's table.
@@ -38,21 +40,14 @@ impl LayerList {
     pub fn read(alloc: Global, json: &[u8]) -> Result<LayerList, LayersFault>
         ensures { GivesOr OutOfMemory listed result (layers_in json.now) }
     {
-        let value = read_value(alloc, json)?;
-        read_list(alloc, &value)
+        let mut scratch = Scratch::new(alloc);
+        let mut tokens = Tokens::of(json, &mut scratch)?;
+        let layers = read_list(alloc, &mut tokens)?;
+        tokens.end()?;
+        let paths = layers.ok_or(LayersFault::Shape)?;
+        check_count(paths.len())?;
+        Ok(LayerList { paths })
     }
-}
-
-#[tactic(auto, unfolding(crate::specs::LayerList::layers_in_value))]
-fn read_list(alloc: Global, value: &Value) -> Result<LayerList, LayersFault>
-    ensures { GivesOr OutOfMemory listed result (layers_in_value (view value.now)) }
-{
-    let Some(items) = list_of(value) else {
-        return Err(LayersFault::Shape);
-    };
-    let paths = read_each(alloc, items)?;
-    check_count(paths.len())?;
-    Ok(LayerList { paths })
 }
 
 /// Whether there may be so many layers.
@@ -66,30 +61,71 @@ pub(crate) fn check_count(count: usize) -> Result<(), LayersFault>
     }
 }
 
-// The paths of each layer.
-#[tactic(auto, using(json_input::proofs::EachSteps::each_item_steps))]
-fn read_each(alloc: Global, items: &[Value]) -> Result<Vec<LayerParts<String>>, LayersFault>
-    ensures { GivesOr OutOfMemory all_paths_of result (each layer_paths_in (map view items.now)) }
+// The layers of the list that stands next.
+fn read_list(
+    alloc: Global,
+    tokens: &mut Tokens<'_>,
+) -> Result<Option<Vec<LayerParts<String>>>, LayersFault>
+    ensures { ReadsOr Syntax OutOfMemory kept_seen kept_list (value_at 127 tokens.old) result tokens.new }
 {
-    let mut paths = Vec::new(alloc);
-    for item in items {
-        let layer = owned_layer(alloc, layer_paths(item)?)?;
-        paths.push(layer)?;
+    if tokens.enter_list(MOST_DEPTH)? {
+        return read_items(alloc, tokens);
     }
-    Ok(paths)
+    Ok(None)
 }
 
-// The paths of one layer.
-#[tactic(auto, unfolding(crate::specs::LayerList::layer_paths_in))]
-fn layer_paths(value: &Value) -> Result<LayerParts<&str>, LayersFault>
-    ensures { lent_paths_seen result ≡ layer_paths_in (view value.now) }
+// The layers of a list that was entered, where all its items are layers. No more of them are kept than one too many.
+fn read_items(
+    alloc: Global,
+    tokens: &mut Tokens<'_>,
+) -> Result<Option<Vec<LayerParts<String>>>, LayersFault>
+    ensures { ReadsOr Syntax OutOfMemory kept_seen kept_layers (items_at 126 tokens.old) result tokens.new }
 {
-    if !has_only(value, &[TABLE, MAP]) {
-        return Err(LayersFault::Shape);
+    let mut layers = Vec::new(alloc);
+    'items: while tokens.next_item() {
+        let Some(layer) = read_layer(alloc, tokens)? else {
+            tokens.pass_items(MOST_DEPTH - 1)?;
+            return Ok(None);
+        };
+        if layers.len() <= MOST_LAYERS {
+            layers.push(layer)?;
+        }
     }
-    let table = table_path(value)?;
-    let map = map_path(value)?;
-    Ok((table, map))
+    Ok(Some(layers))
+}
+
+// The paths of the layer that stands next.
+fn read_layer(
+    alloc: Global,
+    tokens: &mut Tokens<'_>,
+) -> Result<Option<LayerParts<String>>, LayersFault>
+    ensures value { ReadsOr Syntax OutOfMemory layer_seen layer_paths_in (value_at 126 tokens.old) result tokens.new }
+    ensures shorter { OnOk result (length tokens.new < length tokens.old) }
+{
+    let mut members = [None; 2];
+    if !tokens.fields(MOST_DEPTH - 1, &[TABLE, MAP], &mut members)? {
+        return Ok(None);
+    }
+    let [table, map] = members;
+    match layer_paths(table, map) {
+        Some(lent) => Ok(Some(owned_layer(alloc, lent)?)),
+        None => Ok(None),
+    }
+}
+
+// The paths that the members of a layer have.
+#[tactic(auto, unfolding(crate::specs::LayerKinds::layer_of_kinds))]
+fn layer_paths<'a>(table: Option<Kind<'a>>, map: Option<Kind<'a>>) -> Option<LayerParts<&'a str>>
+    ensures { option_map lent_paths_of result ≡ layer_of_kinds (option_map kind_seen table.entry) (option_map kind_seen map.entry) }
+{
+    let Some(Kind::Text(table)) = table else {
+        return None;
+    };
+    match map {
+        None => Some((table, None)),
+        Some(Kind::Text(map)) => Some((table, Some(map))),
+        Some(_) => None,
+    }
 }
 
 fn owned_layer(alloc: Global, lent: LayerParts<&str>) -> Result<LayerParts<String>, AllocError>
@@ -100,29 +136,5 @@ fn owned_layer(alloc: Global, lent: LayerParts<&str>) -> Result<LayerParts<Strin
     match map {
         Some(map) => Ok((table, Some(String::from_str(alloc, map)?))),
         None => Ok((table, None)),
-    }
-}
-
-#[tactic(auto, unfolding(crate::specs::LayerList::table_path))]
-fn table_path(value: &Value) -> Result<&str, LayersFault>
-    ensures { path_seen result ≡ table_path (view value.now) }
-{
-    match value.get(TABLE) {
-        Some(path) => path.as_str().ok_or(LayersFault::Shape),
-        None => Err(LayersFault::Shape),
-    }
-}
-
-// The path of the id map, None at a base.
-#[tactic(auto, unfolding(crate::specs::LayerList::map_path))]
-fn map_path(value: &Value) -> Result<Option<&str>, LayersFault>
-    ensures { optional_path_seen result ≡ map_path (view value.now) }
-{
-    match value.get(MAP) {
-        Some(path) => match path.as_str() {
-            Some(path) => Ok(Some(path)),
-            None => Err(LayersFault::Shape),
-        },
-        None => Ok(None),
     }
 }

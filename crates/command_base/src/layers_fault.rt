@@ -7,6 +7,7 @@ ghost use Rattle.command_base.specs.declared.layers_fault.LayersFault.TheVariant
 ghost use Rattle.command_base.specs.LayersFaultText.{layers_fault_text};
 
 use json_input::JsonFault;
+use json_tokens::Malformed;
 use std::alloc::{AllocError, AllocFailed};
 use std::fmt::{self, Debug, Display, Formatter};
 use std::io::{self, Write};
@@ -45,6 +46,14 @@ impl From<JsonFault> for LayersFault {
             JsonFault::Syntax => LayersFault::Syntax,
             JsonFault::OutOfMemory => LayersFault::OutOfMemory,
         }
+    }
+}
+
+impl From<Malformed> for LayersFault {
+    ghost from_gives = { λ _ e. e ≡ Syntax };
+
+    fn from(_malformed: Malformed) -> LayersFault {
+        LayersFault::Syntax
     }
 }
 
