@@ -13,10 +13,14 @@ use crate::hints::text::Hint;
 use command_base::{
     BoxFault, Coord, DeviceFault, Inputs, LayersFault, LocaleRule, Side, ToolFault,
 };
-use json_input::read_value;
+use json_input::{JsonFault, read_value};
+use json_tokens::{MOST_DEPTH, Scratch, Tokens};
 use notation::is_printed;
 use serde_json::Value;
 use std::alloc::Global;
+
+/// The most bytes of a text that is read as a value, which takes many times as much memory.
+const MOST_BYTES: usize = 1 << 16;
 
 impl<I: Inputs> Asked<'_, '_, I> {
     /// Says what is wrong where there is a fault, mostly of a JSON text.
@@ -33,11 +37,40 @@ impl<I: Inputs> Asked<'_, '_, I> {
         let Some(bytes) = self.inputs.read_again(file.path) else {
             return;
         };
+        if bytes.len() > MOST_BYTES {
+            return say_long(self.alloc, self.parts.order, file, &bytes, hint);
+        }
         match read_value(self.alloc, &bytes) {
             Ok(value) => say_value(self.alloc, &self.parts, file, &value, hint),
             Err(_) => say_instead(Expected::Json(file.expected), file.path, &bytes, hint),
         }
     }
+}
+
+// The same of a text that is too long to be kept as a value. Such a text is mostly written by a program: a hint tells at most
+// that it is a certificate.
+fn say_long(alloc: Global, order: &[u8], file: JsonFile<'_>, bytes: &[u8], hint: &mut Hint) {
+    match is_certificate(alloc, bytes) {
+        Ok(is_certificate) => {
+            if is_certificate && file.expected != Kind::Certificate {
+                say_kind(order, file, Kind::Certificate, hint);
+            }
+        }
+        Err(JsonFault::Syntax) => {
+            say_instead(Expected::Json(file.expected), file.path, bytes, hint);
+        }
+        Err(JsonFault::OutOfMemory) => {}
+    }
+}
+
+// Whether a text has goals, and no member but of a certificate.
+fn is_certificate(alloc: Global, bytes: &[u8]) -> Result<bool, JsonFault> {
+    let mut scratch = Scratch::new(alloc);
+    let mut tokens = Tokens::of(bytes, &mut scratch)?;
+    let mut members = [None; 2];
+    let no_others = tokens.fields(MOST_DEPTH, &["goals", "version"], &mut members)?;
+    tokens.end()?;
+    Ok(no_others && members[0].is_some())
 }
 
 // The JSON text that has a fault.
