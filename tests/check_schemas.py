@@ -740,8 +740,8 @@ def fault_told(program, options, name, text):
     if name == "id-map":
         files["layers"] = '[{"table":"table"},{"table":"table","map":"id-map"}]'
     for path, content in files.items():
-        with open(path, "w") as out:
-            out.write(content)
+        with open(path, "wb") as out:
+            out.write(content if isinstance(content, bytes) else content.encode())
     inputs = ["box", "certificate"] if name in ("box", "certificate") else ["device"]
     command = "query" if inputs == ["device"] else "check"
     done = subprocess.run([program, command, *options, "layers", *inputs, "0x7f010000"], capture_output=True, text=True)

@@ -297,6 +297,7 @@ line goal.err 'command: bad id 0x01010001@'
 check "an attribute without styles comes before the files" 2 $none goal.err check absent box certificate 0x7f010000 0x01010001@
 if command -v python3 >/dev/null; then
     ends "JSON Schemas" 0 "python3 '$here/tests/check_schemas.py' \"\$0\""
+    ends "random and changed JSON texts" 0 "python3 '$here/tests/check_texts.py' \"\$0\" 300 4"
     ends "worked certificates" 0 "python3 '$here/tests/worked_certificates.py' \"\$0\" 4"
     ends "random certificates" 0 "python3 '$here/tests/check_certificates.py' \"\$0\" 400 4"
     ends "worked boxes and certificates by a phone's locales" 0 "python3 '$here/tests/worked_locales.py' \"\$0\" 4"

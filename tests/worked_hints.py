@@ -372,6 +372,9 @@ KIND_NAMES = {"list": "a list of layers", "phone": "a device", "phones": "a box"
 SETS = 'a box has a list or a range for each qualifier, as "density":[160,320]; '
 ONE_VALUE = 'a device has one value for each qualifier, as "density":320; '
 
+MANY_GOALS = 2000
+"""So many that the text is longer than those that are kept as a whole."""
+
 EXCHANGED = [
     # Words with a * for a file, what that should be, and in which order files are given.
     (f"query list * {ID}", "device", "query takes LAYERS DEVICE ID.."),
@@ -395,6 +398,8 @@ def of_kinds():
                 yield Hinted(words.replace("*", path), hint, table=TABLE_A, **KINDS)
     for path in "list", "made":
         yield Hinted(f"device {path}", f"{path} is {KIND_NAMES[path]}, and no device", **KINDS)
+    goals = [{"id": ID, "nodes": [{"layer": 0, "kind": 16, "word": 1}]}] * MANY_GOALS
+    yield Hinted("device made", f"made is {KIND_NAMES['made']}, and no device", made={"version": 1, "goals": goals})
 
 
 GROUPS = (
